@@ -1,0 +1,153 @@
+-- Laws of tests, counts, sums and lists over the numbers below a bound.
+use mathlib.Core.Path.{_≡_, refl, sym, ap, ap₂, subst, _∙_}
+use mathlib.Core.Bool.{Bool, true, false, _&&_, and-eq-true-iff, true≢false}
+use mathlib.Core.List.{List, [], _∷_, _++_}
+use Prim.Native.Nat.{ℕ, zero, suc, _+_, _*_, _/_, _%_, _≤_, _<_}
+use native.Mathlib.Decide.{decLt}
+use native.Mathlib.Nat.{add-zero, suc-mul, zero-mul}
+use native.Mathlib.Numerals.{add-one}
+use native.Mathlib.Omega.{arith}
+use borrow.Author.Count.{below-none}
+use lib.Arith.{digits-div, digits-mod}
+use lib.ListN.{length, getD, length-append, List·getD-append}
+use lib.Seq.{getD-at}
+use Rattle.words.specs.Words.{value}
+use Rattle.words.specs.Below.{all, count, total, tabulate, concat}
+use Rattle.words.proofs.Bits.{value-lt}
+
+-- what holds at each number below the bound and at the bound holds below the next
+pub below-suc {ℓ} : (P : ℕ → Type ℓ) (b : ℕ) → ((k : ℕ) → k < b → P k) → P b → (k : ℕ) → k < suc b → P k
+below-suc P b h here k l = at (decLt k b)
+  where
+    at : Dec (k < b) → P k
+    at (yes less) = h k less
+    at (no not-less) = subst P same here
+      where
+        same : b ≡ k
+        same = omega arith
+
+-- What goes up from bound to bound by the value at each depends on the values below the bound alone.
+step-cong : {A B : Type 0} (F : ℕ → (ℕ → A) → B) (step : B → A → B)
+    → ((f g : ℕ → A) → F zero f ≡ F zero g) → ((b : ℕ) (f : ℕ → A) → F (suc b) f ≡ step (F b f) (f b))
+    → (b : ℕ) (f g : ℕ → A) → ((k : ℕ) → k < b → f k ≡ g k) → F b f ≡ F b g
+step-cong F step start next zero f g h = start f g
+step-cong F step start next (suc b) f g h =
+    next b f
+    ∙ ap₂ step (step-cong F step start next b f g (λ k l. h k (omega arith))) (h b (omega arith))
+    ∙ sym (next b g)
+
+-- ---- a test of each
+
+pub all-true : (b : ℕ) (p : ℕ → Bool) → all b p ≡ true → (k : ℕ) → k < b → p k ≡ true
+unfolding all
+all-true zero p h = below-none (λ k. p k ≡ true)
+all-true (suc b) p h =
+    below-suc (λ k. p k ≡ true) b (all-true b p (and-eq-true-iff (all b p) (p b) .0 h .0)) (and-eq-true-iff (all b p) (p b) .0 h .1)
+
+pub all-yes : (b : ℕ) (p : ℕ → Bool) → ((k : ℕ) → k < b → p k ≡ true) → all b p ≡ true
+unfolding all
+all-yes zero p h = refl
+all-yes (suc b) p h = and-eq-true-iff (all b p) (p b) .1 (all-yes b p (λ k l. h k (omega arith)), h b (omega arith))
+
+pub all-none : (p : ℕ → Bool) → all 0 p ≡ true
+unfolding all
+all-none p = refl
+
+pub all-next : (k : ℕ) (p : ℕ → Bool) → all k p ≡ true → p k ≡ true → all (k + 1) p ≡ true
+unfolding all
+all-next k p h here = ap (λ (z : ℕ). all z p) (add-one k) ∙ and-eq-true-iff (all k p) (p k) .1 (h, here)
+
+pub all-fails : (b : ℕ) (p : ℕ → Bool) (k : ℕ) → k < b → p k ≡ false → all b p ≡ false
+all-fails b p k l no-pass = at (all b p) refl
+  where
+    at : (t : Bool) → all b p ≡ t → t ≡ false
+    at false e = refl
+    at true e = absurd (true≢false (sym (all-true b p e k l) ∙ no-pass))
+
+pub all-cong : (b : ℕ) (p q : ℕ → Bool) → ((k : ℕ) → k < b → p k ≡ q k) → all b p ≡ all b q
+unfolding all
+all-cong = step-cong all _&&_ (λ p q. refl) (λ b p. refl)
+
+-- ---- how many pass
+
+pub count-cong : (b : ℕ) (p q : ℕ → Bool) → ((k : ℕ) → k < b → p k ≡ q k) → count b p ≡ count b q
+unfolding count
+count-cong = step-cong count (λ c t. c + value t) (λ p q. refl) (λ b p. refl)
+
+pub count-le : (b : ℕ) (p : ℕ → Bool) → count b p ≤ b
+unfolding count
+count-le zero p = omega arith
+count-le (suc b) p = omega (arith, count-le b p, value-lt (p b))
+
+pub count-all : (b : ℕ) (p : ℕ → Bool) → ((k : ℕ) → k < b → p k ≡ true) → count b p ≡ b
+unfolding count
+count-all zero p h = refl
+count-all (suc b) p h = omega (arith, count-all b p (λ k l. h k (omega arith)), ap value (h b (omega arith)))
+
+pub count-none : (b : ℕ) (p : ℕ → Bool) → ((k : ℕ) → k < b → p k ≡ false) → count b p ≡ 0
+unfolding count
+count-none zero p h = refl
+count-none (suc b) p h = omega (arith, count-none b p (λ k l. h k (omega arith)), ap value (h b (omega arith)))
+
+pub count-zero→none : (b : ℕ) (p : ℕ → Bool) → count b p ≡ 0 → (k : ℕ) → k < b → p k ≡ false
+unfolding count
+count-zero→none zero p h = below-none (λ k. p k ≡ false)
+count-zero→none (suc b) p h = below-suc (λ k. p k ≡ false) b (count-zero→none b p (omega arith)) (no-value (p b) (omega arith))
+  where
+    no-value : (t : Bool) → value t ≡ 0 → t ≡ false
+    no-value false e = refl
+    no-value true e = absurd (omega arith)
+
+pub count-split : (a b : ℕ) (p : ℕ → Bool) → count (a + b) p ≡ count a p + count b (λ i. p (a + i))
+unfolding count
+count-split a zero p = ap (λ (z : ℕ). count z p) (add-zero a) ∙ sym (add-zero (count a p))
+count-split a (suc b) p = ap (λ (z : ℕ). count z p) next ∙ omega (arith, count-split a b p)
+  where
+    next : a + suc b ≡ suc (a + b)
+    next = omega arith
+
+-- ---- sums
+
+pub total-cong : (b : ℕ) (f g : ℕ → ℕ) → ((k : ℕ) → k < b → f k ≡ g k) → total b f ≡ total b g
+unfolding total
+total-cong = step-cong total _+_ (λ f g. refl) (λ b f. refl)
+
+-- The pairs of a number below a and a number below b, counted one by one or row by row.
+pub count-product : (a b : ℕ) (p : ℕ → ℕ → Bool) → 0 < b → count (a * b) (λ z. p (z / b) (z % b)) ≡ total a (λ x. count b (p x))
+unfolding total count
+count-product zero b p h = ap (λ (z : ℕ). count z (λ z. p (z / b) (z % b))) (zero-mul b)
+count-product (suc a) b p h =
+    ap (λ (z : ℕ). count z pair) (suc-mul a b)
+    ∙ count-split (a * b) b pair
+    ∙ ap₂ _+_ (count-product a b p h) (count-cong b (λ i. pair (a * b + i)) (p a) row)
+  where
+    pair : ℕ → Bool
+    pair z = p (z / b) (z % b)
+
+    row : (i : ℕ) → i < b → pair (a * b + i) ≡ p a i
+    row i l = ap₂ p (digits-div a l) (digits-mod a l)
+
+-- ---- lists
+
+module _ {A : Type 0} where
+  pub tabulate-cong : (b : ℕ) (f g : ℕ → A) → ((k : ℕ) → k < b → f k ≡ g k) → tabulate b f ≡ tabulate b g
+  unfolding tabulate
+  tabulate-cong = step-cong tabulate (λ l x. l ++ (x ∷ [])) (λ f g. refl) (λ b f. refl)
+
+  pub length-tabulate : (b : ℕ) (f : ℕ → A) → length (tabulate b f) ≡ b
+  unfolding tabulate
+  length-tabulate zero f = refl
+  length-tabulate (suc b) f = length-append (tabulate b f) (f b ∷ []) ∙ omega (arith, length-tabulate b f)
+
+  pub getD-tabulate : (b : ℕ) (f : ℕ → A) (k : ℕ) (d : A) → k < b → getD (tabulate b f) k d ≡ f k
+  unfolding tabulate
+  getD-tabulate zero f k d l = absurd (omega arith)
+  getD-tabulate (suc b) f k d l =
+      below-suc (λ k. getD (tabulate b f ++ (f b ∷ [])) k d ≡ f k) b
+      (λ k less. List·getD-append (tabulate b f) (f b ∷ []) d k (omega (arith, length-tabulate b f)) ∙ getD-tabulate b f k d less)
+      (getD-at (tabulate b f) (f b) [] d b (length-tabulate b f))
+      k l
+
+  pub concat-cong : (b : ℕ) (f g : ℕ → List A) → ((k : ℕ) → k < b → f k ≡ g k) → concat b f ≡ concat b g
+  unfolding concat
+  concat-cong = step-cong concat _++_ (λ f g. refl) (λ b f. refl)
