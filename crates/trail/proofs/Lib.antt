@@ -1,0 +1,5 @@
+pub mod KindNumbers
+pub mod KindTests
+pub mod Makes
+pub mod Runs
+pub mod Differences

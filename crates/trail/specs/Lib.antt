@@ -1,0 +1,4 @@
+pub mod Kinds
+pub mod Trail
+pub mod Runs
+pub mod WellFormed

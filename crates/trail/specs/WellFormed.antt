@@ -1,0 +1,38 @@
+-- What questions 4 to 15 of document 01 say of a trail.
+use Prim.Native.Nat.{ℕ, _+_, _^_, _<_, _≤_}
+use mathlib.Core.Path.{_≡_}
+use mathlib.Core.Logic.{_≢_}
+use mathlib.Core.Bool.{Bool, true, false}
+use lib.ListN.{getD}
+use Rattle.trail.specs.declared.Line.{Line}
+use Rattle.trail.specs.Kinds.{Kind, kindOf, usesSecond, usesAmount, usesConstant}
+use Rattle.trail.specs.Kinds.Kind.{addWords, unknown}
+use Rattle.trail.specs.Trail.{Trail, inputCount, lineCount, lineAt}
+
+-- a line of width n that makes word j
+pub record WellFormedLine (n j : ℕ) (l : Line) : Type 0 where
+  pub kind-known : kindOf (l .kind) ≢ unknown
+  pub first-earlier : l .first < j
+  pub second-earlier : usesSecond (kindOf (l .kind)) ≡ true → l .second < j
+  pub operands-differ : kindOf (l .kind) ≡ addWords → l .first ≢ l .second
+  pub amount-least : usesAmount (kindOf (l .kind)) ≡ true → 1 ≤ l .amount
+  pub amount-most : usesAmount (kindOf (l .kind)) ≡ true → l .amount < n
+  pub constant-word : usesConstant (kindOf (l .kind)) ≡ true → l .constant < 2 ^ n
+  pub difference-word : l .difference < 2 ^ n
+  pub second-unused : usesSecond (kindOf (l .kind)) ≡ false → l .second ≡ 0
+  pub amount-unused : usesAmount (kindOf (l .kind)) ≡ false → l .amount ≡ 0
+  pub constant-unused : usesConstant (kindOf (l .kind)) ≡ false → l .constant ≡ 0
+
+-- what theorems rest on
+pub record WellFormed (t : Trail) : Type 0 where
+  pub width-least : 2 ≤ t .width
+  pub inputs-least : 1 ≤ inputCount t
+  pub lines-least : 1 ≤ lineCount t
+  pub inputs-words : (j : ℕ) → j < inputCount t → getD (t .inputs) j 0 < 2 ^ t .width
+  pub lines-right : (k : ℕ) → k < lineCount t → WellFormedLine (t .width) (inputCount t + k) (lineAt t k)
+
+-- the upper limits, on which only the code's bounds rest
+pub record Sized (t : Trail) : Type 0 where
+  pub width-most : t .width ≤ 32
+  pub inputs-most : inputCount t ≤ 8
+  pub lines-most : lineCount t ≤ 248
