@@ -1,0 +1,51 @@
+-- What a call on a sheet comes to, from what reading answered: laws for the calls of other crates, whatever they answer.
+use Prim.Native.Nat.{ℕ, _<_, _≤_}
+use mathlib.Core.Path.{_≡_, sym, ap, _∙_}
+use mathlib.Core.Bool.{true}
+use mathlib.Core.List.{List, _++_}
+use borrow.Author.Tests.{ltb-true, leb-true}
+use Rattle.trail.specs.Trail.{Trail}
+use Rattle.trail.specs.Runs.{isStart}
+use Rattle.sheet.specs.Asking.{Question, allYes, Verdict, verdict}
+use Rattle.sheet.specs.Asking.Verdict.{accepted, refused}
+use Rattle.sheet.specs.Fields.{headerOf}
+use Rattle.sheet.specs.Questions.{questions, lineNumberQuestions, roomQuestions, startQuestions}
+use Rattle.sheet.specs.Answers.{readingMeans, refusalOf, IsAccepted}
+use Rattle.sheet.specs.declared.Header.{Header}
+use Rattle.sheet.specs.declared.Refusal.{Refusal}
+use Rattle.sheet.specs.declared.Mode.the-variants.{Read}
+use Rattle.sheet.specs.declared.Reading.{Reading}
+use Rattle.sheet.specs.declared.Reading.the-variants.{Accepted, Refused}
+use Rattle.sheet.proofs.Asking.{go-on, stop, yes-first}
+use Rattle.sheet.proofs.Answering.{asked}
+
+module _ (s : List ℕ) (r : Reading) (read : readingMeans r ≡ verdict (questions Read s) (headerOf s)) where
+  -- a sheet that reading refuses, the call refuses with the same number and place
+  pub refused-by-reading : {A : Type 0} (own : List Question) (a : A) (v : Refusal) → r ≡ Refused v
+      → refused (refusalOf r .number) (refusalOf r .place) ≡ verdict (questions Read s ++ own) a
+  refused-by-reading own a v e =
+      ap (λ x. refused (refusalOf x .number) (refusalOf x .place)) e
+      ∙ sym (stop (questions Read s) own (headerOf s) a (sym read ∙ ap readingMeans e))
+
+  -- a sheet that reading accepts is an accepted one, with the parts that reading gave
+  pub accepted-by-reading : (g : Header) → r ≡ Accepted g → IsAccepted s × (headerOf s ≡ g)
+  accepted-by-reading g e = asked (questions Read s) (headerOf s) r g read e
+
+-- of an accepted sheet the call's own questions are asked
+pub own-questions : {A : Type 0} (s : List ℕ) (own : List Question) (a : A) {v : Verdict A}
+    → IsAccepted s → v ≡ verdict own a → v ≡ verdict (questions Read s ++ own) a
+own-questions s own a accepts e = e ∙ sym (go-on (questions Read s) own a accepts)
+
+-- ---- what the calls' own questions say
+
+pub line-number : (h : Header) (k : ℕ) → allYes (lineNumberQuestions h k) ≡ true → k < h .lines
+unfolding lineNumberQuestions
+line-number h k e = ltb-true _ _ (yes-first _ _ _ _ e)
+
+pub enough-room : (need room : ℕ) → allYes (roomQuestions need room) ≡ true → need ≤ room
+unfolding roomQuestions
+enough-room need room e = leb-true _ _ (yes-first _ _ _ _ e)
+
+pub is-start : (t : Trail) (x : List ℕ) → allYes (startQuestions t x) ≡ true → isStart t x ≡ true
+unfolding startQuestions
+is-start t x e = yes-first _ _ _ _ e

@@ -1,0 +1,11 @@
+pub mod Asking
+pub mod Testing
+pub mod Answering
+pub mod Calling
+pub mod Settled
+pub mod WellFormed
+pub mod OnlyChecks
+pub mod WrittenChecks
+pub mod Demand2
+pub mod Example
+pub mod CheckSums

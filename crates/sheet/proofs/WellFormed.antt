@@ -1,0 +1,146 @@
+-- An accepted sheet's trail is well-formed, within the limits of document 01.
+use Prim.Native.Nat.{ℕ, _+_, _-_, _^_, _<_, _≤_}
+use native.Mathlib.Omega.{arith}
+use mathlib.Core.Path.{_≡_, refl, sym, ap, ap₂, _∙_, subst}
+use mathlib.Core.Logic.{_≢_}
+use mathlib.Core.Bool.{Bool, true, false, not, _&&_, _||_, cond, and-eq-true-iff, true≢false, false≢true}
+use mathlib.Core.List.{List, [], _∷_, _++_}
+use borrow.Author.Tests.{eqb-true, ltb-true, eq-eqb, lt-ltb}
+use lib.Dec.{eqb, ltb}
+use lib.ListN.{length, getD}
+use Rattle.words.specs.Words.{isWord}
+use Rattle.words.specs.Below.{all, tabulate}
+use Rattle.words.proofs.Below.{all-true, length-tabulate, getD-tabulate}
+use Rattle.trail.specs.declared.Line.{Line}
+use Rattle.trail.specs.Kinds.{Kind, kindOf, usesSecond, usesAmount, usesConstant}
+use Rattle.trail.specs.Kinds.Kind.{addWords}
+use Rattle.trail.specs.Trail.{Trail, inputCount, lineCount, noLine, lineAt}
+use Rattle.trail.specs.WellFormed.{WellFormedLine, WellFormed, Sized}
+use Rattle.trail.proofs.KindNumbers.{numberOf, known, number-of}
+use Rattle.sheet.specs.Asking.{allYes}
+use Rattle.sheet.specs.Fields.{headerOf, inputDifference, recordOf, lineOf, trailOf}
+use Rattle.sheet.specs.Questions.{within, lengthQuestions, checkQuestions, inputRight, headerQuestions, operandsEarlier, operandsDiffer, amountRight, constantRight, unusedZero, recordQuestions, lineQuestions, laterQuestions, questions}
+use Rattle.sheet.specs.Facts.{Whole, Limited}
+use Rattle.sheet.specs.declared.Header.{Header}
+use Rattle.sheet.specs.declared.Record.{Record}
+use Rattle.sheet.specs.declared.Mode.{Mode}
+use Rattle.sheet.proofs.Asking.{yes-left, yes-right, yes-at}
+use Rattle.sheet.proofs.Settled.{apart, whole, headed, limited}
+use Rattle.sheet.proofs.Testing.{within-least, within-most}
+
+-- ---- a line
+
+-- a test that is asked only of some kinds
+asked : (s t : Bool) → (not s || t) ≡ true → s ≡ true → t ≡ true
+asked true t e d = e
+asked false t e d = absurd (false≢true d)
+
+unasked : (s t : Bool) → (s || t) ≡ true → s ≡ false → t ≡ true
+unasked true t e d = absurd (true≢false d)
+unasked false t e d = e
+
+-- kind 5 is the addition of two words
+differs : (k x y : ℕ) → (not (eqb k 5) || not (eqb x y)) ≡ true → kindOf k ≡ addWords → x ≢ y
+differs k x y e u f =
+    let five : eqb k 5 ≡ true = eq-eqb k 5 (number-of addWords k (λ v. omega (arith, ap numberOf v)) u) in
+    let same : eqb x y ≡ true = eq-eqb x y f in
+    false≢true (rw (five, same) at e)
+
+below : (x n : ℕ) → 1 ≤ n → x ≤ n - 1 → x < n
+below x n h l = omega arith
+
+pub line-right : (mode : Mode) (h : Header) (k : ℕ) (r : Record) → 1 ≤ h .width → allYes (recordQuestions mode h k r) ≡ true
+    → WellFormedLine (h .width) (h .inputs + k) (lineOf r)
+unfolding recordQuestions operandsEarlier operandsDiffer amountRight constantRight unusedZero
+line-right mode h k r wide e =
+    let kind = apart _ _ _ _ e in
+    let earlier = apart _ _ _ _ (kind .later) in
+    let differ = apart _ _ _ _ (earlier .later) in
+    let amount = apart _ _ _ _ (differ .later) in
+    let constant = apart _ _ _ _ (amount .later) in
+    let difference = apart _ _ _ _ (constant .later) in
+    let unused = apart _ _ _ _ (difference .later) in
+    let uses = kindOf (r .kind) in
+    let operands = and-eq-true-iff (ltb (r .first) (h .inputs + k)) (not (usesSecond uses) || ltb (r .second) (h .inputs + k)) .0 (earlier .here) in
+    let range = asked (usesAmount uses) (within 1 (h .width - 1) (r .amount)) (amount .here) in
+    let zero = and-eq-true-iff (eqb (r .zero) 0) _ .0 (unused .here) in
+    let zero-amount = and-eq-true-iff (usesAmount uses || eqb (r .amount) 0) _ .0 (zero .1) in
+    let zero-second = and-eq-true-iff (usesSecond uses || eqb (r .second) 0) (usesConstant uses || eqb (r .constant) 0) .0 (zero-amount .1) in
+    record {
+      kind-known = known (r .kind) (within-least 1 6 _ (kind .here)) (within-most 1 6 _ (kind .here));
+      first-earlier = ltb-true _ _ (operands .0);
+      second-earlier = λ u. ltb-true _ _ (asked (usesSecond uses) (ltb (r .second) (h .inputs + k)) (operands .1) u);
+      operands-differ = λ u f. differs (r .kind) (r .first) (r .second) (differ .here) u f;
+      amount-least = λ u. within-least 1 (h .width - 1) _ (range u);
+      amount-most = λ u. below (r .amount) (h .width) wide (within-most 1 (h .width - 1) _ (range u));
+      constant-word = λ u. ltb-true _ _ (asked (usesConstant uses) (isWord (h .width) (r .constant)) (constant .here) u);
+      difference-word = ltb-true _ _ (difference .here);
+      second-unused = λ u. eqb-true _ _ (unasked (usesSecond uses) (eqb (r .second) 0) (zero-second .0) u);
+      amount-unused = λ u. eqb-true _ _ (unasked (usesAmount uses) (eqb (r .amount) 0) (zero-amount .0) u);
+      constant-unused = λ u. eqb-true _ _ (unasked (usesConstant uses) (eqb (r .constant) 0) (zero-second .1) u);
+    }
+
+-- ---- the trail
+
+module _ (mode : Mode) (s : List ℕ) (e : allYes (questions mode s) ≡ true) where
+  later : allYes (laterQuestions mode s (headerOf s)) ≡ true
+  unfolding questions
+  later = yes-right (checkQuestions mode s (headerOf s)) _ (yes-right (lengthQuestions s) _ e)
+
+  pub accepted-whole : Whole s (headerOf s)
+  unfolding questions
+  accepted-whole = whole s (yes-left (lengthQuestions s) _ e)
+
+  pub accepted-limited : Limited (headerOf s)
+  unfolding laterQuestions
+  accepted-limited = limited s (headerOf s) (accepted-whole .blocks-least) (yes-left _ _ later)
+
+  trail-inputs : inputCount (trailOf s) ≡ headerOf s .inputs
+  unfolding trailOf
+  trail-inputs = length-tabulate (headerOf s .inputs) (inputDifference s)
+
+  trail-lines : lineCount (trailOf s) ≡ headerOf s .lines
+  unfolding trailOf
+  trail-lines = length-tabulate (headerOf s .lines) (λ k. lineOf (recordOf s k))
+
+  input-word : (j : ℕ) → j < headerOf s .inputs → inputDifference s j < 2 ^ headerOf s .width
+  unfolding inputRight laterQuestions
+  input-word j l =
+      let right = all-true 8 (inputRight s (headerOf s)) (headed s (headerOf s) (yes-left _ _ later) .inputs-right) j (omega (arith, accepted-limited .inputs-most)) in
+      ltb-true _ _ (rw (lt-ltb j (headerOf s .inputs) l) at right)
+
+  line-at : (k : ℕ) → k < headerOf s .lines → lineAt (trailOf s) k ≡ lineOf (recordOf s k)
+  unfolding trailOf lineAt
+  line-at k l = getD-tabulate (headerOf s .lines) (λ i. lineOf (recordOf s i)) k noLine l
+
+  record-right : (k : ℕ) → k < headerOf s .lines → WellFormedLine (headerOf s .width) (headerOf s .inputs + k) (lineOf (recordOf s k))
+  unfolding laterQuestions lineQuestions
+  record-right k l =
+      line-right mode (headerOf s) k (recordOf s k) (omega (arith, accepted-limited .width-least))
+      (yes-at (lineQuestions mode s (headerOf s)) (headerOf s .lines) (yes-left _ _ (yes-right (headerQuestions s (headerOf s)) _ later)) k l)
+
+  input-right : (j : ℕ) → j < headerOf s .inputs → getD (trailOf s .inputs) j 0 < 2 ^ trailOf s .width
+  unfolding trailOf
+  input-right j l = rw (getD-tabulate (headerOf s .inputs) (inputDifference s) j 0 l) (input-word j l)
+
+  line-of : (k : ℕ) → k < headerOf s .lines → WellFormedLine (trailOf s .width) (inputCount (trailOf s) + k) (lineAt (trailOf s) k)
+  unfolding trailOf
+  line-of k l = rw (line-at k l, trail-inputs) (record-right k l)
+
+  pub accepted-well-formed : WellFormed (trailOf s)
+  unfolding trailOf
+  accepted-well-formed = record {
+    width-least = accepted-limited .width-least;
+    inputs-least = omega (arith, trail-inputs, accepted-limited .inputs-least);
+    lines-least = omega (arith, trail-lines, accepted-limited .lines-least);
+    inputs-words = λ j l. input-right j (subst (λ (m : ℕ). j < m) trail-inputs l);
+    lines-right = λ k l. line-of k (subst (λ (m : ℕ). k < m) trail-lines l);
+  }
+
+  pub accepted-sized : Sized (trailOf s)
+  unfolding trailOf
+  accepted-sized = record {
+    width-most = accepted-limited .width-most;
+    inputs-most = omega (arith, trail-inputs, accepted-limited .inputs-most);
+    lines-most = omega (arith, trail-lines, accepted-limited .lines-most);
+  }

@@ -1,0 +1,26 @@
+-- What the answers of reading and sealing mean: document 01's number and place for a refusal, the sheet's parts else.
+use Prim.Native.Nat.{ℕ}
+use mathlib.Core.Path.{_≡_}
+use mathlib.Core.Bool.{true}
+use mathlib.Core.List.{List}
+use Rattle.sheet.specs.Asking.{Verdict, allYes}
+use Rattle.sheet.specs.Asking.Verdict.{accepted, refused}
+use Rattle.sheet.specs.Questions.{questions}
+use Rattle.sheet.specs.declared.Header.{Header}
+use Rattle.sheet.specs.declared.Refusal.{Refusal}
+use Rattle.sheet.specs.declared.Mode.the-variants.{Read}
+use Rattle.sheet.specs.declared.Reading.{Reading}
+use Rattle.sheet.specs.declared.Reading.the-variants.{Accepted, Refused}
+
+abbrev pub readingMeans : Reading → Verdict Header
+readingMeans (Accepted h) = accepted h
+readingMeans (Refused r) = refused (r .number) (r .place)
+
+-- the refusal in an answer; an acceptance has none, written 0 and 0
+abbrev pub refusalOf : Reading → Refusal
+refusalOf (Accepted h) = record { number = 0; place = 0 }
+refusalOf (Refused r) = r
+
+-- an accepted sheet is one with yes to all of questions 1 to 16
+abbrev pub IsAccepted : List ℕ → Type 0
+IsAccepted s = allYes (questions Read s) ≡ true

@@ -1,0 +1,23 @@
+-- What the code's inner functions may count on: facts that the questions before them have settled. No call that users make
+-- requires any of these.
+use Prim.Native.Nat.{ℕ, _+_, _*_, _/_, _<_, _≤_}
+use mathlib.Core.Path.{_≡_}
+use mathlib.Core.List.{List}
+use lib.ListN.{length}
+use Rattle.sheet.specs.declared.Header.{Header}
+
+-- what question 1 settles
+pub record Whole (s : List ℕ) (h : Header) : Type 0 where
+  pub whole : length s ≡ 512 * h .blocks
+  pub blocks-least : 2 ≤ h .blocks
+  pub blocks-most : h .blocks ≤ 9
+
+-- what questions 4 to 6 settle
+pub record Limited (h : Header) : Type 0 where
+  pub width-least : 2 ≤ h .width
+  pub width-most : h .width ≤ 32
+  pub inputs-least : 1 ≤ h .inputs
+  pub inputs-most : h .inputs ≤ 8
+  pub lines-least : 1 ≤ h .lines
+  pub lines-most : h .lines ≤ 248
+  pub enough : h .blocks ≡ 1 + (h .lines + 30) / 31

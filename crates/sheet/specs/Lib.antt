@@ -1,0 +1,9 @@
+pub mod Asking
+pub mod Fields
+pub mod Checks
+pub mod Questions
+pub mod Facts
+pub mod Answers
+pub mod Sealing
+pub mod Example
+pub mod Demands

@@ -1,0 +1,81 @@
+// The blocks' checks: question 2, and what sealing writes.
+ghost use mathlib.Core.Path.{_≡_};
+ghost use Prim.Native.Nat.{_+_, _*_, _<_, _≤_};
+ghost use lib.Dec.{eqb};
+ghost use lib.ListN.{length};
+ghost use Rattle.buffers.specs.LittleEndian.{numberAt};
+ghost use Rattle.words.specs.Below.{concat};
+ghost use Rattle.sheet.specs.Asking.{verdict};
+ghost use Rattle.sheet.specs.Checks.{checkOf, checkPosition};
+ghost use Rattle.sheet.specs.Questions.{checkQuestion, checkQuestions};
+ghost use Rattle.sheet.specs.Answers.{readingMeans};
+ghost use Rattle.sheet.specs.Sealing.{withChecks};
+ghost use Rattle.sheet.specs.Facts.{Whole};
+use crate::Header;
+use crate::Mode;
+use crate::Reading;
+use crate::refused;
+use buffers::put_number;
+use buffers::u32_at;
+
+// A block's check: its first 127 numbers and its index, added modulo 2^32.
+fn block_check(s: &[u8], block: usize) -> u32
+    requires { ⌜ (512 * block + 512 ≤ length (now s)) × (block < 9) ⌝ }
+    ensures { λ r. ⌜ r ≡ checkOf (now (s .entry)) block ⌝ }
+{
+    let mut sum: u32 = 0;
+    let mut j = 0;
+    while j < 127 {
+        sum = std::num::wrapping_add_u32(sum, u32_at(s, 512 * block + 4 * j));
+        j += 1;
+    }
+    std::num::wrapping_add_u32(sum, block as u32)
+}
+
+// Whether a block's check is right.
+fn check_right(s: &[u8], block: usize) -> bool
+    requires { ⌜ (512 * block + 512 ≤ length (now s)) × (block < 9) ⌝ }
+    ensures { λ r. ⌜ r ≡ eqb (numberAt 4 (now (s .entry)) (checkPosition block)) (checkOf (now (s .entry)) block) ⌝ }
+{
+    u32_at(s, 512 * block + 508) == block_check(s, block)
+}
+
+// Question 2 of every block.
+fn checks_right(s: &[u8], header: Header) -> Reading
+    requires { ⌜ Whole (now s) header ⌝ }
+    ensures { λ r. ⌜ readingMeans r ≡ verdict (concat (header .blocks) (checkQuestion (now (s .entry)))) header ⌝ }
+{
+    let blocks = header.blocks;
+    let mut block = 0;
+    while block < blocks {
+        if !check_right(s, block) {
+            return refused(2, block);
+        }
+        block += 1;
+    }
+    Reading::Accepted(header)
+}
+
+// Question 2, where the mode asks it.
+pub(crate) fn check_stage(s: &[u8], mode: Mode, header: Header) -> Reading
+    requires { ⌜ Whole (now s) header ⌝ }
+    ensures { λ r. ⌜ readingMeans r ≡ verdict (checkQuestions mode (now (s .entry)) header) header ⌝ }
+{
+    match mode {
+        Mode::Read => checks_right(s, header),
+        Mode::Seal => Reading::Accepted(header),
+    }
+}
+
+// Writes the check of each of the blocks.
+pub(crate) fn write_checks(s: &mut [u8], blocks: usize)
+    requires { ⌜ (length (now s) ≡ 512 * blocks) × (blocks ≤ 9) ⌝ }
+    ensures { λ _. ⌜ now (s .exit) ≡ withChecks blocks (now (s .entry)) ⌝ }
+{
+    let mut b = 0;
+    while b < blocks {
+        let check = block_check(s, b);
+        put_number(s, 512 * b + 508, 4, check as u64);
+        b += 1;
+    }
+}
