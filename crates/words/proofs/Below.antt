@@ -1,10 +1,10 @@
 -- Laws of tests, counts, sums and lists over the numbers below a bound.
 use mathlib.Core.Path.{_≡_, refl, sym, ap, ap₂, subst, _∙_}
-use mathlib.Core.Bool.{Bool, true, false, _&&_, and-eq-true-iff, true≢false}
+use mathlib.Core.Bool.{Bool, true, false, _&&_, _||_, cond, and-eq-true-iff, or-false, or-true, or-assoc, true≢false}
 use mathlib.Core.List.{List, [], _∷_, _++_}
 use Prim.Native.Nat.{ℕ, zero, suc, _+_, _*_, _/_, _%_, _≤_, _<_}
 use native.Mathlib.Decide.{decLt}
-use native.Mathlib.Nat.{add-zero, suc-mul, zero-mul}
+use native.Mathlib.Nat.{add-zero, mul-add, mul-zero, suc-mul, zero-mul}
 use native.Mathlib.Numerals.{add-one}
 use native.Mathlib.Omega.{arith}
 use borrow.Author.Count.{below-none}
@@ -12,7 +12,7 @@ use lib.Arith.{digits-div, digits-mod}
 use lib.ListN.{length, getD, length-append, List·getD-append}
 use lib.Seq.{getD-at}
 use Rattle.words.specs.Words.{value}
-use Rattle.words.specs.Below.{all, count, total, tabulate, concat}
+use Rattle.words.specs.Below.{all, any, count, total, tabulate, concat}
 use Rattle.words.proofs.Bits.{value-lt}
 
 -- what holds at each number below the bound and at the bound holds below the next
@@ -68,7 +68,42 @@ pub all-cong : (b : ℕ) (p q : ℕ → Bool) → ((k : ℕ) → k < b → p k �
 unfolding all
 all-cong = step-cong all _&&_ (λ p q. refl) (λ b p. refl)
 
+-- ---- a test of some
+
+pub any-cong : (b : ℕ) (p q : ℕ → Bool) → ((k : ℕ) → k < b → p k ≡ q k) → any b p ≡ any b q
+unfolding any
+any-cong = step-cong any _||_ (λ p q. refl) (λ b p. refl)
+
+-- from the low end
+pub any-shift : (b : ℕ) (p : ℕ → Bool) → any (suc b) p ≡ (p 0 || any b (λ k. p (suc k)))
+unfolding any
+any-shift zero p = sym (or-false (p 0))
+any-shift (suc b) p = ap (λ t. t || p (suc b)) (any-shift b p) ∙ or-assoc (p 0) (any b (λ k. p (suc k))) (p (suc b))
+
+pub any-none : (p : ℕ → Bool) → any 0 p ≡ false
+unfolding any
+any-none p = refl
+
+pub any-next : (k : ℕ) (p : ℕ → Bool) → any k p ≡ false → p k ≡ false → any (k + 1) p ≡ false
+unfolding any
+any-next k p h here = ap (λ (z : ℕ). any z p) (add-one k) ∙ ap (λ t. t || p k) h ∙ here
+
+pub any-found : (b : ℕ) (p : ℕ → Bool) (k : ℕ) → k < b → p k ≡ true → any b p ≡ true
+unfolding any
+any-found zero p k l e = absurd (omega arith)
+any-found (suc b) p k l e =
+    below-suc (λ i. p i ≡ true → (any b p || p b) ≡ true) b
+    (λ i less d. ap (λ t. t || p b) (any-found b p i less d))
+    (λ d. ap (λ t. any b p || t) d ∙ or-true (any b p))
+    k l e
+
 -- ---- how many pass
+
+-- from the low end
+pub count-shift : (b : ℕ) (p : ℕ → Bool) → count (suc b) p ≡ value (p 0) + count b (λ k. p (suc k))
+unfolding count
+count-shift zero p = omega arith
+count-shift (suc b) p = omega (arith, count-shift b p)
 
 pub count-cong : (b : ℕ) (p q : ℕ → Bool) → ((k : ℕ) → k < b → p k ≡ q k) → count b p ≡ count b q
 unfolding count
@@ -106,11 +141,26 @@ count-split a (suc b) p = ap (λ (z : ℕ). count z p) next ∙ omega (arith, co
     next : a + suc b ≡ suc (a + b)
     next = omega arith
 
+-- a test that is the same everywhere
+pub count-when : (b : ℕ) (t : Bool) (p : ℕ → Bool) → count b (λ k. t && p k) ≡ cond t (count b p) 0
+count-when b true p = refl
+count-when b false p = count-none b (λ k. false) (λ k l. refl)
+
 -- ---- sums
 
 pub total-cong : (b : ℕ) (f g : ℕ → ℕ) → ((k : ℕ) → k < b → f k ≡ g k) → total b f ≡ total b g
 unfolding total
 total-cong = step-cong total _+_ (λ f g. refl) (λ b f. refl)
+
+pub total-add : (b : ℕ) (f g : ℕ → ℕ) → total b (λ k. f k + g k) ≡ total b f + total b g
+unfolding total
+total-add zero f g = refl
+total-add (suc b) f g = omega (arith, total-add b f g)
+
+pub total-mul : (b c : ℕ) (f : ℕ → ℕ) → total b (λ k. c * f k) ≡ c * total b f
+unfolding total
+total-mul zero c f = sym (mul-zero c)
+total-mul (suc b) c f = ap (λ (z : ℕ). z + c * f b) (total-mul b c f) ∙ sym (mul-add c (total b f) (f b))
 
 -- The pairs of a number below a and a number below b, counted one by one or row by row.
 pub count-product : (a b : ℕ) (p : ℕ → ℕ → Bool) → 0 < b → count (a * b) (λ z. p (z / b) (z % b)) ≡ total a (λ x. count b (p x))

@@ -1,5 +1,10 @@
+pub mod TruthTables
 pub mod Masks
 pub mod Bits
 pub mod Rotations
 pub mod Sums
 pub mod Below
+pub mod Ones
+pub mod LowBits
+pub mod Pairs
+pub mod Unequal

@@ -1,10 +1,11 @@
 -- The largest word of n bits, 2 ^ n - 1, as code makes and uses it.
 use mathlib.Core.Path.{_≡_, ap, sym, _∙_}
-use Prim.Native.Nat.{ℕ, suc, _+_, _-_, _/_, _%_, _^_, _≤_}
+use Prim.Native.Nat.{ℕ, suc, _+_, _-_, _*_, _/_, _%_, _^_, _≤_, _<_}
+use native.Mathlib.Nat.{mod-eq-of-lt, one-mul}
 use native.Mathlib.Omega.{arith}
 use lib.Dec.{leb, leb·suc-suc}
 use lib.Bits.{bitAnd, and-mask}
-use lib.Pow.{high, mod-mod-pow, ones-lt, ones-split, suc-ones}
+use lib.Pow.{high, mod-mod-pow, ones-lt, ones-split, pow-lt, suc-ones}
 use Rattle.words.specs.Words.{isWord}
 
 -- the n highest of w ones, shifted down
@@ -16,6 +17,10 @@ ones-shifted w n h =
   where
     split-width : w ≡ n + (w - n)
     split-width = omega arith
+
+-- a one, shifted up within w bits
+pub one-shl : (w n : ℕ) → n < w → 1 * 2 ^ n % 2 ^ w ≡ 2 ^ n
+one-shl w n h = ap (λ (z : ℕ). z % 2 ^ w) (one-mul (2 ^ n)) ∙ mod-eq-of-lt (pow-lt h)
 
 -- at most the largest word: a word
 pub leb-ones : (n x : ℕ) → leb x (2 ^ n - 1) ≡ isWord n x

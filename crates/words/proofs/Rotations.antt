@@ -1,14 +1,15 @@
 -- Rotations of a word of n bits: where each bit goes.
 use mathlib.Core.Path.{_≡_, sym, ap, ap₂, subst, _∙_}
+use mathlib.Core.Bool.{xor}
 use Prim.Native.Nat.{ℕ, _+_, _*_, _-_, _/_, _%_, _^_, _<_}
 use native.Mathlib.Decide.{decLt}
 use native.Mathlib.Nat.{add-comm, add-mod-right, add-zero, mod-eq-of-lt, mod-lt, mul-mod-left}
 use native.Mathlib.Omega.{arith}
 use lib.Arith.{digits-lt}
-use lib.Bits.{bitOr, or-shifted}
+use lib.Bits.{bitOr, bitXor, or-shifted, xor-lt}
 use lib.Pow.{high, low, mod-pow-add, pow-add, pow-pos, shl-shr, shr-lt}
 use Rattle.words.specs.Words.{bit, rotateLeft, rotateRight}
-use Rattle.words.proofs.Bits.{bit-mod, bit-shift}
+use Rattle.words.proofs.Bits.{bit-mod, bit-shift, bit-xor, word-ext}
 
 -- what is shifted up and cut at n: the lower bits, above r zeros
 shifted-cut : (n r x : ℕ) → r < n → x * 2 ^ r % 2 ^ n ≡ x % 2 ^ (n - r) * 2 ^ r
@@ -77,6 +78,21 @@ bit-rotateLeft n r x i h hx hi = ap (λ (z : ℕ). bit z i) (rotateLeft-parts n 
         around : i + (n - r) ≡ i - r + n
         around = omega arith
 
+-- a rotation of an XOR is the XOR of the rotations
+pub rotateLeft-xor : (n r x u : ℕ) → r < n → x < 2 ^ n → u < 2 ^ n
+    → rotateLeft n r (bitXor x u) ≡ bitXor (rotateLeft n r x) (rotateLeft n r u)
+rotateLeft-xor n r x u h hx hu =
+    word-ext n (rotateLeft n r (bitXor x u)) (bitXor (rotateLeft n r x) (rotateLeft n r u))
+    (rotateLeft-lt n r (bitXor x u) h both)
+    (xor-lt n (rotateLeft n r x) (rotateLeft n r u) (rotateLeft-lt n r x h hx) (rotateLeft-lt n r u h hu))
+    (λ i l.
+    bit-rotateLeft n r (bitXor x u) i h both l
+    ∙ bit-xor x u ((i + (n - r)) % n)
+    ∙ sym (bit-xor (rotateLeft n r x) (rotateLeft n r u) i ∙ ap₂ xor (bit-rotateLeft n r x i h hx l) (bit-rotateLeft n r u i h hu l)))
+  where
+    both : bitXor x u < 2 ^ n
+    both = xor-lt n x u hx hu
+
 -- to the right by r is to the left by n - r
 pub rotateRight-left : (n r x : ℕ) → r < n → rotateRight n r x ≡ rotateLeft n (n - r) x
 unfolding rotateLeft rotateRight
@@ -92,3 +108,9 @@ bit-rotateRight n r x i hr h hx hi =
     ap (λ (z : ℕ). bit z i) (rotateRight-left n r x h)
     ∙ bit-rotateLeft n (n - r) x i (omega arith) hx hi
     ∙ ap (λ (z : ℕ). bit x ((i + z) % n)) (omega arith)
+
+pub rotateRight-xor : (n r x u : ℕ) → 0 < r → r < n → x < 2 ^ n → u < 2 ^ n
+    → rotateRight n r (bitXor x u) ≡ bitXor (rotateRight n r x) (rotateRight n r u)
+rotateRight-xor n r x u hr h hx hu =
+    rw (rotateRight-left n r (bitXor x u) h, rotateRight-left n r x h, rotateRight-left n r u h)
+    (rotateLeft-xor n (n - r) x u (omega arith) hx hu)

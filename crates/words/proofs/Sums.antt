@@ -7,17 +7,12 @@ use native.Mathlib.Omega.{arith}
 use borrow.Author.Tests.{leb-true, leb-false, lt-leb}
 use lib.Dec.{leb}
 use lib.Pow.{high, pow-pos, shr-shr, split}
-use Rattle.words.specs.Words.{value, bit, sumModulo, carryInto}
+use Rattle.words.specs.Words.{value, bit, sumModulo, carryInto, majority}
 use Rattle.words.proofs.Bits.{value-bit, value-inj, bit-mod}
 
 pub sumModulo-lt : (n x y : ℕ) → sumModulo n x y < 2 ^ n
 unfolding sumModulo
 sumModulo-lt n x y = mod-lt (x + y) (pow-pos n)
-
--- two or more of three bits
-abbrev pub majority : Bool → Bool → Bool → Bool
-majority true b c = b || c
-majority false b c = b && c
 
 -- no carry comes into the lowest bit
 pub carry-zero : (x y : ℕ) → carryInto x y 0 ≡ false

@@ -1,6 +1,6 @@
 -- What the numbers below a bound give to a test or a function. `count` is the one notion of counting.
 use Prim.Native.Nat.{ℕ, zero, suc, _+_}
-use mathlib.Core.Bool.{Bool, true, _&&_}
+use mathlib.Core.Bool.{Bool, true, false, _&&_, _||_}
 use mathlib.Core.List.{List, [], _∷_, _++_}
 use Rattle.words.specs.Words.{value}
 
@@ -8,6 +8,11 @@ use Rattle.words.specs.Words.{value}
 unfoldable pub all : ℕ → (ℕ → Bool) → Bool
 all zero p = true
 all (suc b) p = all b p && p b
+
+-- whether some number below the bound passes
+unfoldable pub any : ℕ → (ℕ → Bool) → Bool
+any zero p = false
+any (suc b) p = any b p || p b
 
 -- how many numbers below the bound pass
 unfoldable pub count : ℕ → (ℕ → Bool) → ℕ

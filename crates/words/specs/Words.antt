@@ -1,6 +1,6 @@
 -- Words of n bits are the numbers below 2 ^ n. XOR is the kit's `bitXor`.
 use Prim.Native.Nat.{ℕ, zero, suc, _+_, _-_, _*_, _/_, _%_, _^_}
-use mathlib.Core.Bool.{Bool, true, false}
+use mathlib.Core.Bool.{Bool, true, false, cond, _&&_, _||_}
 use lib.Dec.{eqb, ltb, leb}
 
 -- a bit as a number
@@ -11,6 +11,10 @@ value true = 1
 -- bit i of a word, bit 0 the lowest
 unfoldable pub bit : ℕ → ℕ → Bool
 bit x i = eqb (x / 2 ^ i % 2) 1
+
+-- the bit k places below position i, bits below position 0 read as 0: x[i-k]
+unfoldable pub bitBelow : ℕ → ℕ → ℕ → Bool
+bitBelow k x i = cond (ltb i k) false (bit x (i - k))
 
 -- the word of n bits whose bit i is f i
 unfoldable pub fromBits : ℕ → (ℕ → Bool) → ℕ
@@ -37,3 +41,8 @@ rotateRight n r x = x / 2 ^ r + x * 2 ^ (n - r) % 2 ^ n
 -- (document 01, "Clauses")
 unfoldable pub carryInto : ℕ → ℕ → ℕ → Bool
 carryInto x y i = leb (2 ^ i) (x % 2 ^ i + y % 2 ^ i)
+
+-- two or more of three bits
+abbrev pub majority : Bool → Bool → Bool → Bool
+majority true b c = b || c
+majority false b c = b && c
