@@ -2,8 +2,8 @@
 use Prim.Native.Nat.{ℕ, _<_, _≤_}
 use mathlib.Core.Path.{_≡_, sym, ap, _∙_}
 use mathlib.Core.Bool.{true}
-use mathlib.Core.List.{List, _++_}
-use borrow.Author.Tests.{ltb-true, leb-true}
+use mathlib.Core.List.{List, [], _++_, append-nil}
+use borrow.Author.Tests.{ltb-true, leb-true, lt-ltb, le-ltb, le-leb, lt-leb}
 use Rattle.trail.specs.Trail.{Trail}
 use Rattle.trail.specs.Runs.{isStart}
 use Rattle.sheet.specs.Asking.{Question, allYes, Verdict, verdict}
@@ -16,7 +16,8 @@ use Rattle.sheet.specs.declared.Refusal.{Refusal}
 use Rattle.sheet.specs.declared.Mode.the-variants.{Read}
 use Rattle.sheet.specs.declared.Reading.{Reading}
 use Rattle.sheet.specs.declared.Reading.the-variants.{Accepted, Refused}
-use Rattle.sheet.proofs.Asking.{go-on, stop, yes-first}
+use Rattle.sheet.proofs.Asking.{go-on, stop, yes-first, Comes, comes}
+use Rattle.sheet.proofs.Asking.Comes.{done, yes, no}
 use Rattle.sheet.proofs.Answering.{asked}
 
 module _ (s : List ℕ) (r : Reading) (read : readingMeans r ≡ verdict (questions Read s) (headerOf s)) where
@@ -26,6 +27,11 @@ module _ (s : List ℕ) (r : Reading) (read : readingMeans r ≡ verdict (questi
   refused-by-reading own a v e =
       ap (λ x. refused (refusalOf x .number) (refusalOf x .place)) e
       ∙ sym (stop (questions Read s) own (headerOf s) a (sym read ∙ ap readingMeans e))
+
+  -- the same of a call with no questions of its own
+  pub refused-alone : {A : Type 0} (a : A) (v : Refusal) → r ≡ Refused v
+      → refused (refusalOf r .number) (refusalOf r .place) ≡ verdict (questions Read s) a
+  refused-alone a v e = refused-by-reading [] a v e ∙ ap (λ qs. verdict qs a) (append-nil (questions Read s))
 
   -- a sheet that reading accepts is an accepted one, with the parts that reading gave
   pub accepted-by-reading : (g : Header) → r ≡ Accepted g → IsAccepted s × (headerOf s ≡ g)
@@ -49,3 +55,22 @@ enough-room need room e = leb-true _ _ (yes-first _ _ _ _ e)
 pub is-start : (t : Trail) (x : List ℕ) → allYes (startQuestions t x) ≡ true → isStart t x ≡ true
 unfolding startQuestions
 is-start t x e = yes-first _ _ _ _ e
+
+-- ---- what they refuse, and when they pass
+
+module _ {A : Type 0} (a : A) where
+  pub no-line : (h : Header) (k : ℕ) → h .lines ≤ k → refused 17 0 ≡ verdict (lineNumberQuestions h k) a
+  unfolding lineNumberQuestions
+  no-line h k l = comes (no (le-ltb k (h .lines) l))
+
+  pub some-line : (h : Header) (k : ℕ) → k < h .lines → accepted a ≡ verdict (lineNumberQuestions h k) a
+  unfolding lineNumberQuestions
+  some-line h k l = comes (yes (lt-ltb k (h .lines) l) done)
+
+  pub no-room : (need room : ℕ) → room < need → refused 18 0 ≡ verdict (roomQuestions need room) a
+  unfolding roomQuestions
+  no-room need room l = comes (no (lt-leb need room l))
+
+  pub some-room : (need room : ℕ) → need ≤ room → accepted a ≡ verdict (roomQuestions need room) a
+  unfolding roomQuestions
+  some-room need room l = comes (yes (le-leb need room l) done)

@@ -3,6 +3,7 @@ pub mod Testing
 pub mod Answering
 pub mod Calling
 pub mod Settled
+pub mod TrailParts
 pub mod WellFormed
 pub mod OnlyChecks
 pub mod WrittenChecks

@@ -9,12 +9,12 @@ use borrow.Author.Tests.{eqb-true, ltb-true, eq-eqb, lt-ltb}
 use lib.Dec.{eqb, ltb}
 use lib.ListN.{length, getD}
 use Rattle.words.specs.Words.{isWord}
-use Rattle.words.specs.Below.{all, tabulate}
-use Rattle.words.proofs.Below.{all-true, length-tabulate, getD-tabulate}
+use Rattle.words.specs.Below.{all}
+use Rattle.words.proofs.Below.{all-true}
 use Rattle.trail.specs.declared.Line.{Line}
 use Rattle.trail.specs.Kinds.{Kind, kindOf, usesSecond, usesAmount, usesConstant}
 use Rattle.trail.specs.Kinds.Kind.{addWords}
-use Rattle.trail.specs.Trail.{Trail, inputCount, lineCount, noLine, lineAt}
+use Rattle.trail.specs.Trail.{inputCount, lineCount, lineAt}
 use Rattle.trail.specs.WellFormed.{WellFormedLine, WellFormed, Sized}
 use Rattle.trail.proofs.KindNumbers.{numberOf, known, number-of}
 use Rattle.sheet.specs.Asking.{allYes}
@@ -24,6 +24,7 @@ use Rattle.sheet.specs.Facts.{Whole, Limited}
 use Rattle.sheet.specs.declared.Header.{Header}
 use Rattle.sheet.specs.declared.Record.{Record}
 use Rattle.sheet.specs.declared.Mode.{Mode}
+use Rattle.sheet.proofs.TrailParts.{trail-inputs, trail-lines, trail-input, trail-line}
 use Rattle.sheet.proofs.Asking.{yes-left, yes-right, yes-at}
 use Rattle.sheet.proofs.Settled.{apart, whole, headed, limited}
 use Rattle.sheet.proofs.Testing.{within-least, within-most}
@@ -95,23 +96,11 @@ module _ (mode : Mode) (s : List ℕ) (e : allYes (questions mode s) ≡ true) w
   unfolding laterQuestions
   accepted-limited = limited s (headerOf s) (accepted-whole .blocks-least) (yes-left _ _ later)
 
-  trail-inputs : inputCount (trailOf s) ≡ headerOf s .inputs
-  unfolding trailOf
-  trail-inputs = length-tabulate (headerOf s .inputs) (inputDifference s)
-
-  trail-lines : lineCount (trailOf s) ≡ headerOf s .lines
-  unfolding trailOf
-  trail-lines = length-tabulate (headerOf s .lines) (λ k. lineOf (recordOf s k))
-
   input-word : (j : ℕ) → j < headerOf s .inputs → inputDifference s j < 2 ^ headerOf s .width
   unfolding inputRight laterQuestions
   input-word j l =
       let right = all-true 8 (inputRight s (headerOf s)) (headed s (headerOf s) (yes-left _ _ later) .inputs-right) j (omega (arith, accepted-limited .inputs-most)) in
       ltb-true _ _ (rw (lt-ltb j (headerOf s .inputs) l) at right)
-
-  line-at : (k : ℕ) → k < headerOf s .lines → lineAt (trailOf s) k ≡ lineOf (recordOf s k)
-  unfolding trailOf lineAt
-  line-at k l = getD-tabulate (headerOf s .lines) (λ i. lineOf (recordOf s i)) k noLine l
 
   record-right : (k : ℕ) → k < headerOf s .lines → WellFormedLine (headerOf s .width) (headerOf s .inputs + k) (lineOf (recordOf s k))
   unfolding laterQuestions lineQuestions
@@ -121,26 +110,26 @@ module _ (mode : Mode) (s : List ℕ) (e : allYes (questions mode s) ≡ true) w
 
   input-right : (j : ℕ) → j < headerOf s .inputs → getD (trailOf s .inputs) j 0 < 2 ^ trailOf s .width
   unfolding trailOf
-  input-right j l = rw (getD-tabulate (headerOf s .inputs) (inputDifference s) j 0 l) (input-word j l)
+  input-right j l = rw (trail-input s j l) (input-word j l)
 
   line-of : (k : ℕ) → k < headerOf s .lines → WellFormedLine (trailOf s .width) (inputCount (trailOf s) + k) (lineAt (trailOf s) k)
   unfolding trailOf
-  line-of k l = rw (line-at k l, trail-inputs) (record-right k l)
+  line-of k l = rw (trail-line s k l, trail-inputs s) (record-right k l)
 
   pub accepted-well-formed : WellFormed (trailOf s)
   unfolding trailOf
   accepted-well-formed = record {
     width-least = accepted-limited .width-least;
-    inputs-least = omega (arith, trail-inputs, accepted-limited .inputs-least);
-    lines-least = omega (arith, trail-lines, accepted-limited .lines-least);
-    inputs-words = λ j l. input-right j (subst (λ (m : ℕ). j < m) trail-inputs l);
-    lines-right = λ k l. line-of k (subst (λ (m : ℕ). k < m) trail-lines l);
+    inputs-least = omega (arith, trail-inputs s, accepted-limited .inputs-least);
+    lines-least = omega (arith, trail-lines s, accepted-limited .lines-least);
+    inputs-words = λ j l. input-right j (subst (λ (m : ℕ). j < m) (trail-inputs s) l);
+    lines-right = λ k l. line-of k (subst (λ (m : ℕ). k < m) (trail-lines s) l);
   }
 
   pub accepted-sized : Sized (trailOf s)
   unfolding trailOf
   accepted-sized = record {
     width-most = accepted-limited .width-most;
-    inputs-most = omega (arith, trail-inputs, accepted-limited .inputs-most);
-    lines-most = omega (arith, trail-lines, accepted-limited .lines-most);
+    inputs-most = omega (arith, trail-inputs s, accepted-limited .inputs-most);
+    lines-most = omega (arith, trail-lines s, accepted-limited .lines-most);
   }

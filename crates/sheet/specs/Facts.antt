@@ -4,6 +4,8 @@ use Prim.Native.Nat.{ℕ, _+_, _*_, _/_, _<_, _≤_}
 use mathlib.Core.Path.{_≡_}
 use mathlib.Core.List.{List}
 use lib.ListN.{length}
+use Rattle.sheet.specs.Fields.{headerOf}
+use Rattle.sheet.specs.Answers.{IsAccepted}
 use Rattle.sheet.specs.declared.Header.{Header}
 
 -- what question 1 settles
@@ -21,3 +23,8 @@ pub record Limited (h : Header) : Type 0 where
   pub lines-least : 1 ≤ h .lines
   pub lines-most : h .lines ≤ 248
   pub enough : h .blocks ≡ 1 + (h .lines + 30) / 31
+
+-- what reading an accepted sheet settles
+pub record Read (s : List ℕ) (h : Header) : Type 0 where
+  pub accepted : IsAccepted s
+  pub parts : headerOf s ≡ h

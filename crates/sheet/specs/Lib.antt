@@ -2,8 +2,8 @@ pub mod Asking
 pub mod Fields
 pub mod Checks
 pub mod Questions
-pub mod Facts
 pub mod Answers
+pub mod Facts
 pub mod Sealing
 pub mod Example
 pub mod Demands

@@ -2,7 +2,7 @@
 ghost use mathlib.Core.Path.{_≡_};
 ghost use Prim.Native.Nat.{_+_, _*_, _<_, _≤_};
 ghost use lib.ListN.{length};
-ghost use Rattle.sheet.specs.Fields.{headerOf, recordFrom, recordOf};
+ghost use Rattle.sheet.specs.Fields.{headerOf, inputDifference, recordFrom, recordOf};
 ghost use Rattle.sheet.specs.Facts.{Whole, Limited};
 use crate::Header;
 use crate::Record;
@@ -24,6 +24,14 @@ pub(crate) fn header_of(s: &[u8]) -> Header
         inputs,
         lines,
     }
+}
+
+// Input difference j.
+pub(crate) fn input_difference(s: &[u8], j: usize) -> u64
+    requires { ⌜ (40 ≤ length (now s)) × (j < 8) ⌝ }
+    ensures { λ r. ⌜ r ≡ inputDifference (now (s .entry)) j ⌝ }
+{
+    u32_at(s, 8 + 4 * j) as u64
 }
 
 // The record at a position.

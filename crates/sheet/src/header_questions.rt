@@ -9,10 +9,10 @@ ghost use Rattle.sheet.specs.Answers.{readingMeans};
 ghost use Rattle.sheet.specs.Facts.{Whole};
 use crate::Header;
 use crate::Reading;
+use crate::fields::input_difference;
 use crate::refused;
 use crate::tests::within;
 use crate::tests::zero_bytes;
-use buffers::u32_at;
 use words::is_word;
 
 // Whether the four mark bytes are there.
@@ -48,7 +48,7 @@ fn input_right(s: &[u8], header: Header, j: usize) -> bool
     requires { ⌜ (40 ≤ length (now s)) × (j < 8) × (1 ≤ header .width) × (header .width ≤ 64) ⌝ }
     ensures { λ r. ⌜ r ≡ inputRight (now (s .entry)) header j ⌝ }
 {
-    let difference = u32_at(s, 8 + 4 * j) as u64;
+    let difference = input_difference(s, j);
     if j < header.inputs {
         is_word(header.width, difference)
     } else {

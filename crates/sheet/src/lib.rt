@@ -3,6 +3,7 @@ mod checks;
 mod fields;
 mod header_questions;
 mod line_questions;
+pub mod lines;
 mod rest_questions;
 mod tests;
 
