@@ -1,0 +1,182 @@
+-- The logarithm in sixteenths: the place of the highest one, the four bits after it, and how far it is from the truth.
+use mathlib.Core.Path.{_≡_, refl, sym, ap, subst, _∙_}
+use mathlib.Core.Bool.{Bool, true, false, _&&_, cond, and-eq-true-iff}
+use Prim.Native.Nat.{ℕ, zero, suc, _+_, _-_, _*_, _/_, _%_, _^_, _<_, _≤_}
+use native.Mathlib.Nat.{add-assoc, mul-assoc, mul-comm, mul-right-comm, suc-mul}
+use native.Mathlib.Nat.{div-lt-iff-lt-mul, div-mul-le-self, le-div-iff-mul-le, lt-div-mul-add, mod-eq-of-lt, mod-lt, mul-div-mul-right}
+use native.Mathlib.Nat.{le-of-eq, le-of-lt, le-of-mul-le-mul-right, le-trans, lt-of-le-of-lt, mul-le-mul-right, pow-le-pow-left}
+use native.Mathlib.Numerals.{add-one}
+use native.Mathlib.Omega.{arith}
+use borrow.Author.Tests.{leb-true}
+use lib.Count.{leadingZeros, leading-top}
+use lib.Dec.{leb}
+use lib.Pow.{pow-add, pow-pos, shl-shr}
+use Rattle.words.specs.Words.{value, bit}
+use Rattle.words.specs.Below.{all}
+use Rattle.words.proofs.Below.{all-true}
+use Rattle.words.proofs.Bits.{fromBits-below, mod-bit}
+use Rattle.differential.specs.Logarithm.{highestOneBelow, highestOne, nextFour, logarithm}
+use Rattle.differential.proofs.Powers.{exponent-lt, lt-pow, mul-pow, pow-mul}
+
+-- ---- the place of the highest one
+
+-- M is the place of p's highest one
+abbrev At : ℕ → ℕ → Type 0
+At p m = (2 ^ m ≤ p) × (p < 2 ^ (m + 1))
+
+highest-below : (b p : ℕ) → 0 < p → p < 2 ^ b → At p (highestOneBelow b p)
+unfolding highestOneBelow
+highest-below zero p h l = absurd (omega arith)
+highest-below (suc b) p h l = at (bit p b) refl (highest-below b p h)
+  where
+    parts : p ≡ value (bit p b) * 2 ^ b + p % 2 ^ b
+    parts = sym (mod-eq-of-lt l) ∙ mod-bit p b
+
+    at : (t : Bool) → bit p b ≡ t → (p < 2 ^ b → At p (highestOneBelow b p)) → At p (cond t b (highestOneBelow b p))
+    at true e lower = (omega (arith, parts, ap (λ (z : Bool). value z * 2 ^ b) e), rw (add-one b) l)
+    at false e lower = lower (omega (arith, parts, ap (λ (z : Bool). value z * 2 ^ b) e, mod-lt p (pow-pos b)))
+
+module _ (p : ℕ) (some : 0 < p) where
+  pub highestOne-low : 2 ^ highestOne p ≤ p
+  unfolding highestOne
+  highestOne-low = highest-below p p some (lt-pow p) .0
+
+  pub highestOne-high : p < 2 ^ (highestOne p + 1)
+  unfolding highestOne
+  highestOne-high = highest-below p p some (lt-pow p) .1
+
+  pub highestOne-only : (m : ℕ) → 2 ^ m ≤ p → p < 2 ^ (m + 1) → m ≡ highestOne p
+  highestOne-only m lo hi =
+      omega (
+        arith,
+        exponent-lt m (highestOne p + 1) (lt-of-le-of-lt lo highestOne-high),
+        exponent-lt (highestOne p) (m + 1) (lt-of-le-of-lt highestOne-low hi),
+      )
+
+  -- in a word of w bits, the zeros above the highest one, that one, and the places below it make w
+  pub leading-highestOne : (w : ℕ) → p < 2 ^ w → leadingZeros w p + suc (highestOne p) ≡ w
+  leading-highestOne w word =
+      let top = leading-top w p some word in
+      let place = highestOne-only (top .0) (top .2) (rw add-one (top .3)) in
+      rw (← place) (top .1)
+
+-- ---- the four bits after it
+
+pub nextFour-is : (p : ℕ) → nextFour p ≡ p * 16 / 2 ^ highestOne p % 16
+unfolding nextFour
+nextFour-is p = fromBits-below 4 p (highestOne p)
+
+pub nextFour-lt : (p : ℕ) → nextFour p < 16
+nextFour-lt p = omega (arith, nextFour-is p)
+
+-- by one shift: down where M is 4 or more, up where it is less
+pub nextFour-down : (p : ℕ) → 4 ≤ highestOne p → nextFour p ≡ p / 2 ^ (highestOne p - 4) % 16
+nextFour-down p l =
+    nextFour-is p
+    ∙ ap (λ (z : ℕ). z % 16) (ap (λ (z : ℕ). p * 16 / z) parts ∙ mul-div-mul-right p (2 ^ (m - 4)) (pow-pos 4))
+  where
+    m : ℕ
+    m = highestOne p
+
+    parts : 2 ^ m ≡ 2 ^ (m - 4) * 16
+    parts = ap (λ (z : ℕ). 2 ^ z) (omega arith) ∙ pow-add 2 (m - 4) 4
+
+pub nextFour-up : (p : ℕ) → highestOne p < 4 → nextFour p ≡ p * 2 ^ (4 - highestOne p) % 16
+nextFour-up p l = nextFour-is p ∙ ap (λ (z : ℕ). z % 16) (ap (λ (z : ℕ). z / 2 ^ m) parts ∙ shl-shr (p * 2 ^ (4 - m)) m)
+  where
+    m : ℕ
+    m = highestOne p
+
+    parts : p * 16 ≡ p * 2 ^ (4 - m) * 2 ^ m
+    parts =
+        ap (λ (z : ℕ). p * 2 ^ z) four
+        ∙ ap (λ (z : ℕ). p * z) (pow-add 2 (4 - m) m)
+        ∙ sym (mul-assoc p (2 ^ (4 - m)) (2 ^ m))
+      where
+        four : 4 ≡ 4 - m + m
+        four = omega arith
+
+-- ---- to 3 sixteenths
+
+-- p lies between 16 + F and 17 + F sixteenths of 2 ^ M. The 16th powers of these two lie within 2 ^ F and 2 ^ (F + 3), times
+-- 16 ^ 16: one test, computed at each of the sixteen F.
+within : ℕ → Bool
+within f = leb (2 ^ f * 16 ^ 16) ((16 + f) ^ 16) && leb ((17 + f) ^ 16) (2 ^ (f + 3) * 16 ^ 16)
+
+tested : all 16 within ≡ true
+unfolding all within
+tested = refl
+
+module _ (f : ℕ) (digit : f < 16) where
+  passes : (leb (2 ^ f * 16 ^ 16) ((16 + f) ^ 16) ≡ true) × (leb ((17 + f) ^ 16) (2 ^ (f + 3) * 16 ^ 16) ≡ true)
+  unfolding within
+  passes =
+      and-eq-true-iff (leb (2 ^ f * 16 ^ 16) ((16 + f) ^ 16)) (leb ((17 + f) ^ 16) (2 ^ (f + 3) * 16 ^ 16)) .0
+      (all-true 16 within tested f digit)
+
+  digit-low : 2 ^ f * 16 ^ 16 ≤ (16 + f) ^ 16
+  digit-low = leb-true (2 ^ f * 16 ^ 16) ((16 + f) ^ 16) (passes .0)
+
+  digit-high : (17 + f) ^ 16 ≤ 2 ^ (f + 3) * 16 ^ 16
+  digit-high = leb-true ((17 + f) ^ 16) (2 ^ (f + 3) * 16 ^ 16) (passes .1)
+
+module _ (p : ℕ) (some : 0 < p) where
+  abbrev m : ℕ
+  m = highestOne p
+
+  abbrev f : ℕ
+  f = nextFour p
+
+  -- p in sixteenths of 2 ^ M, rounded down
+  rounded : p * 16 / 2 ^ m ≡ 16 + f
+  rounded = omega (arith, nextFour-is p, least, most)
+    where
+      least : 16 ≤ p * 16 / 2 ^ m
+      least = le-div-iff-mul-le (pow-pos m) .1 (omega (arith, highestOne-low p some))
+
+      most : p * 16 / 2 ^ m < 32
+      most = div-lt-iff-lt-mul (pow-pos m) .1 (omega (arith, highestOne-high p some, pow-add 2 m 1))
+
+  lower : (16 + f) * 2 ^ m ≤ p * 16
+  lower = subst (λ (z : ℕ). z * 2 ^ m ≤ p * 16) rounded (div-mul-le-self (p * 16) (2 ^ m))
+
+  upper : p * 16 ≤ (17 + f) * 2 ^ m
+  upper = rw more (le-of-lt (subst (λ (z : ℕ). p * 16 < z * 2 ^ m + 2 ^ m) rounded above))
+    where
+      above : p * 16 < p * 16 / 2 ^ m * 2 ^ m + 2 ^ m
+      above = lt-div-mul-add (pow-pos m)
+
+      more : (17 + f) * 2 ^ m ≡ (16 + f) * 2 ^ m + 2 ^ m
+      more = ap (λ (z : ℕ). z * 2 ^ m) (omega arith) ∙ suc-mul (16 + f) (2 ^ m)
+
+  powers : (k : ℕ) → (k * 2 ^ m) ^ 16 ≡ k ^ 16 * 2 ^ (16 * m)
+  powers k = mul-pow k (2 ^ m) 16 ∙ ap (λ (z : ℕ). k ^ 16 * z) (sym (pow-mul 2 m 16) ∙ ap (λ (z : ℕ). 2 ^ z) (mul-comm m 16))
+
+  twos : (g : ℕ) → 2 ^ g * 16 ^ 16 * 2 ^ (16 * m) ≡ 2 ^ (16 * m + g) * 16 ^ 16
+  twos g =
+      mul-right-comm (2 ^ g) (16 ^ 16) (2 ^ (16 * m))
+      ∙ ap (λ (z : ℕ). z * 16 ^ 16) (mul-comm (2 ^ g) (2 ^ (16 * m)) ∙ sym (pow-add 2 (16 * m) g))
+
+  -- 2 ^ A is at most p ^ 16
+  pub logarithm-low : 2 ^ logarithm p ≤ p ^ 16
+  unfolding logarithm
+  logarithm-low =
+      le-of-mul-le-mul-right
+      (le-trans (le-of-eq (sym (twos f)))
+      (le-trans (mul-le-mul-right (2 ^ (16 * m)) (digit-low f (nextFour-lt p)))
+      (le-trans (le-of-eq (sym (powers (16 + f))))
+      (le-trans (pow-le-pow-left lower 16)
+      (le-of-eq (mul-pow p 16 16))))))
+      (pow-pos 64)
+
+  -- and p ^ 16 at most 2 ^ (A + 3)
+  pub logarithm-high : p ^ 16 ≤ 2 ^ (logarithm p + 3)
+  unfolding logarithm
+  logarithm-high =
+      le-of-mul-le-mul-right
+      (le-trans (le-of-eq (sym (mul-pow p 16 16)))
+      (le-trans (pow-le-pow-left upper 16)
+      (le-trans (le-of-eq (powers (17 + f)))
+      (le-trans (mul-le-mul-right (2 ^ (16 * m)) (digit-high f (nextFour-lt p)))
+      (le-of-eq (twos (f + 3) ∙ ap (λ (z : ℕ). 2 ^ z * 16 ^ 16) (sym (add-assoc (16 * m) f 3))))))))
+      (pow-pos 64)

@@ -1,0 +1,49 @@
+-- Demand 2 for one line: what a report says of the operand values that fit.
+use Prim.Native.Nat.{ℕ, _+_, _-_, _*_, _^_, _<_, _≤_}
+use mathlib.Core.Path.{_≡_}
+use mathlib.Core.Logic.{_↔_, _⊎_}
+use mathlib.Core.Bool.{true, false}
+use Rattle.trail.specs.WellFormed.{WellFormedLine}
+use Rattle.trail.specs.Kinds.{kindOf}
+use Rattle.trail.specs.Kinds.Kind.{addWords, addConstant}
+use Rattle.differential.specs.declared.Differential.{Differential}
+use Rattle.differential.specs.Fits.{fits, fitting, fittingPairs}
+use Rattle.differential.specs.Report.{Report, reportOf}
+
+-- the differences are words of the line's width, and the line is well-formed
+pub record Proper (d : Differential) : Type 0 where
+  pub width-least : 2 ≤ d .width
+  pub first-word : d .first < 2 ^ d .width
+  pub second-word : d .second < 2 ^ d .width
+  pub word : ℕ
+  pub line-right : WellFormedLine (d .width) word (d .line)
+
+-- the exact number N of fitting words, weight w in sixteenths and chain count c
+pub record CountedRight (n N w c : ℕ) : Type 0 where
+  pub some : 0 < N
+  pub weight-most : w ≤ 16 * n
+  pub low : 2 ^ (16 * n - w) ≤ N ^ 16
+  pub high : N ^ 16 ≤ 2 ^ (16 * n - w + 3 * c)
+
+-- w whole bits where 2 ^ (2n - w) pairs fit
+pub record HalvesRight (n pairs weight : ℕ) : Type 0 where
+  pub bits : ℕ
+  pub weight-is : weight ≡ 16 * bits
+  pub bits-less : bits < n
+  pub pairs-fit : pairs ≡ 2 ^ (2 * n - bits)
+
+-- Impossible exactly when no operand values with the stated differences give the stated result difference; certain only when all
+-- do; halves and counted as above. Adding two words is never certain or counted, adding a constant never certain or halves.
+pub record RightReport (d : Differential) (r : Report) : Type 0 where
+  pub impossible-exactly : (r .number ≡ 0) ↔ ((x y : ℕ) → x < 2 ^ d .width → y < 2 ^ d .width → fits d x y ≡ false)
+  pub certain-fits : r .number ≡ 1 → (x y : ℕ) → x < 2 ^ d .width → y < 2 ^ d .width → fits d x y ≡ true
+  pub halves-right : r .number ≡ 2 → HalvesRight (d .width) (fittingPairs d) (r .weight)
+  pub counted-right : r .number ≡ 3 → CountedRight (d .width) (fitting d) (r .weight) (r .chains)
+  pub counted-fitting : r .number ≡ 3 → r .fitting ≡ fitting d
+  pub number-most : r .number ≤ 3
+  pub words-number : kindOf (d .line .kind) ≡ addWords → (r .number ≡ 0) ⊎ (r .number ≡ 2)
+  pub constant-number : kindOf (d .line .kind) ≡ addConstant → (r .number ≡ 0) ⊎ (r .number ≡ 3)
+
+-- Demand 2 for every line by itself
+abbrev pub EveryReportIsRight : Type 0
+EveryReportIsRight = (d : Differential) → Proper d → RightReport d (reportOf d)
