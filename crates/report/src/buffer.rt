@@ -1,0 +1,59 @@
+// The report buffer: 16 bytes a line.
+ghost use mathlib.Core.Path.{_≡_};
+ghost use Prim.Native.Nat.{_+_, _*_, _<_, _≤_};
+ghost use lib.ListN.{length};
+ghost use Rattle.buffers.specs.Overwrite.{overwrite};
+ghost use Rattle.sheet.specs.Fields.{trailOf};
+ghost use Rattle.sheet.specs.Facts.{Read};
+ghost use Rattle.differential.specs.Report.{Report, reportMeans};
+ghost use Rattle.report.specs.Totals.{SmallReport};
+ghost use Rattle.report.specs.Buffer.{reportBytes, fieldBytes, sheetBytes};
+use crate::REPORT_BYTES;
+use crate::lines::report_at;
+use buffers::put_number;
+use differential::LineReport;
+use differential::in_sixteenths;
+use sheet::Header;
+
+// Writes the reports of all lines.
+pub(crate) fn put_reports(sheet: &[u8], header: Header, out: &mut [u8])
+    requires { ⌜ Read (now sheet) header × (16 * header .lines ≤ length (now out)) ⌝ }
+    ensures { λ _. ⌜ now (out .exit) ≡ overwrite 0 (sheetBytes (trailOf (now (sheet .entry)))) (now (out .entry)) ⌝ }
+{
+    let lines = header.lines;
+    let mut k = 0;
+    while k < lines {
+        put_report(out, REPORT_BYTES * k, report_at(sheet, header, k));
+        k += 1;
+    }
+}
+
+// Writes one report from a position on.
+fn put_report(out: &mut [u8], at: usize, report: LineReport)
+    requires { ⌜ (at + 16 ≤ length (now out)) × SmallReport (reportMeans report) ⌝ }
+    ensures { λ _. ⌜ now (out .exit) ≡ overwrite at (reportBytes (reportMeans report)) (now (out .entry)) ⌝ }
+{
+    match report {
+        LineReport::Impossible => put_fields(out, at, 0, 0, 0, 0),
+        LineReport::Certain => put_fields(out, at, 1, 0, 0, 0),
+        LineReport::Halves(bits) => {
+            let weight = in_sixteenths(bits);
+            put_fields(out, at, 2, 0, weight.0, 0)
+        }
+        LineReport::Counted(weight, chains, fitting) => {
+            put_fields(out, at, 3, chains, weight.0, fitting.0)
+        }
+    }
+}
+
+// Writes a report's number, a zero, its chains, its weight in sixteenths and N.
+fn put_fields(out: &mut [u8], at: usize, number: u32, chains: u32, weight: u32, fitting: u64)
+    requires { ⌜ at + 16 ≤ length (now out) ⌝ }
+    ensures { λ _. ⌜ now (out .exit) ≡ overwrite at (fieldBytes number chains weight fitting) (now (out .entry)) ⌝ }
+{
+    put_number(out, at, 1, number as u64);
+    put_number(out, at + 1, 1, 0);
+    put_number(out, at + 2, 2, chains as u64);
+    put_number(out, at + 4, 4, weight as u64);
+    put_number(out, at + 8, 8, fitting);
+}
