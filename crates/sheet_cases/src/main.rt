@@ -3,19 +3,18 @@
 // A case is a line of standard input, `NAME: LENGTH OFFSET=VALUE OFFSET=VALUE ..`: a sheet of LENGTH bytes, at most 65,536,
 // all 0 but those listed. It is answered by a line, `NAME: read ANSWER; seal ANSWER OFFSET=VALUE ..`, that ends with the
 // bytes that sealing changed.
-mod parse;
 mod print;
 
 ghost use mathlib.Core.Path.{_≡_};
 ghost use lib.ListN.{length};
-use crate::parse::fill;
-use crate::parse::find;
-use crate::parse::number;
 use crate::print::put_answer;
 use crate::print::put_changes;
-use crate::print::put_text;
 use libc::STDIN_FILENO;
-use libc::STDOUT_FILENO;
+use text::parse::fill;
+use text::parse::find;
+use text::parse::number;
+use text::print::put_text;
+use text::print::write_first;
 
 // Room for all cases, and for all answers.
 const TEXT_BYTES: usize = 262144;
@@ -28,13 +27,6 @@ fn main() {
     let mut out = [0u8; TEXT_BYTES];
     let at = run_cases(&input[..n], &mut out);
     write_first(&out, at);
-}
-
-// Writes a buffer's first bytes to standard output.
-fn write_first(out: &[u8], count: usize) {
-    if count <= out.len() {
-        io::write_all(STDOUT_FILENO, &out[0..count]);
-    }
 }
 
 // Answers every line of the input, from the buffer's start on, and tells how long the answers are.

@@ -1,34 +1,10 @@
-// Text put into a buffer: each function takes the position to put it at and tells the position after it. What finds no room
-// is left out.
+// What reading and sealing answer, as text: each function takes the position to put it at and tells the position after it.
 ghost use mathlib.Core.Path.{_≡_};
 ghost use lib.ListN.{length};
 use sheet::Reading;
-
-// One byte.
-fn put(out: &mut [u8], at: usize, byte: u8) -> usize {
-    if at < out.len() {
-        out[at] = byte;
-        return at + 1;
-    }
-    at
-}
-
-// A text.
-pub fn put_text(out: &mut [u8], at: usize, text: &[u8]) -> usize {
-    let mut next = at;
-    for i in 0..text.len() {
-        next = put(out, next, text[i]);
-    }
-    next
-}
-
-// A number in decimal, after a text.
-fn put_number(out: &mut [u8], at: usize, before: &[u8], number: u64) -> usize {
-    let next = put_text(out, at, before);
-    let mut digits = [0u8; 20];
-    let k = io::decimal(number, &mut digits);
-    put_text(out, next, &digits[..k])
-}
+use text::print::put_number;
+use text::print::put_refused;
+use text::print::put_text;
 
 // An answer of reading or sealing after a text: ` accepted BLOCKS WIDTH INPUTS LINES` or ` refused NUMBER PLACE`.
 pub fn put_answer(out: &mut [u8], at: usize, before: &[u8], answer: Reading) -> usize {
@@ -41,8 +17,7 @@ pub fn put_answer(out: &mut [u8], at: usize, before: &[u8], answer: Reading) -> 
             put_number(out, inputs, b" ", header.lines as u64)
         }
         Reading::Refused(refusal) => {
-            let number = put_number(out, next, b" refused ", refusal.number as u64);
-            put_number(out, number, b" ", refusal.place as u64)
+            put_refused(out, next, refusal.number as u64, refusal.place as u64)
         }
     }
 }

@@ -40,9 +40,9 @@ pub fn number(text: &[u8], from: usize) -> Numeral
     Numeral { value, next: at }
 }
 
-// A number with one more digit. One that has six already, more than any number of a case, stays as it is.
+// A number with one more digit. One that has ten already, more than any number of a case, stays as it is.
 fn with_digit(value: usize, digit: u8) -> usize {
-    if value < 100000 {
+    if value < 1000000000 {
         10 * value + digit as usize
     } else {
         value

@@ -1,0 +1,258 @@
+"""The cases of line reports that the program crates/report_cases runs.
+
+    python3 tools/report_cases.py
+
+writes crates/report_cases/stdin, the cases, and crates/report_cases/stdout, the answers that the program has to give. Both
+come from this file and from oracle/trail.py, an independent reading of document 01, alone: nothing that the program prints
+goes into either of them. A differential's report is held here, too, against a count over all operand values; only at 32
+bits the count is the oracle's, by carry pairs, and the program's is the one that tries every word.
+
+A case is a line `NAME: NUMBERS`, by the name's first word one of
+- `every`: KIND WIDTH, all differentials of a kind and a width, in the order of the part that the kind names (the second
+  operand's difference, the constant or the amount), the first operand's difference and the stated difference. Answered by
+  how many there are, how many are impossible or wrong, sums of what the report buffer has of them, and a checksum;
+- `differential`: KIND WIDTH AMOUNT CONSTANT FIRST SECOND DIFFERENCE, one of them. Answered by the report, the count of
+  fitting operand values, and whether the two agree;
+- `sheet` and `unsealed`: LENGTH OFFSET=VALUE .., a sheet whose other bytes are 0, sealed by the program or left as it is.
+  Answered by the reports of its lines and of the line number after the last, its totals, and the report buffer at a length
+  one byte short, just right, and five bytes longer than is needed. The buffer's bytes are A5 before.
+"""
+from collections import Counter
+from pathlib import Path
+
+from oracle.trail import (NAMES, Line, Refused, Sheet, apply, count6, line_report, read, report_bytes, rotl, seal_bytes,
+                          totals)
+from sheet_cases import AMOUNT_KINDS, BLOCK, CONSTANT_KINDS, MOST_TEXT, TWO_WORD_KINDS, case_line, put, put_field
+
+CRATE = Path(__file__).resolve().parent.parent / "crates" / "report_cases"
+
+# The program's two texts, line by line.
+cases, answers = [], []
+
+
+def write(name, lines):
+    text = "".join(lines)
+    assert len(text) <= MOST_TEXT, (name, len(text))
+    (CRATE / name).write_text(text)
+    print(f"{name}: {len(lines)} cases, {len(text)} bytes")
+
+
+# One differential
+
+def lone(kind, n, amount=0, constant=0, first=0, second=0, difference=0):
+    """A sheet of one line, on inputs 0 and 1."""
+    return Sheet(n, [first, second], [Line(kind, amount, 0, int(kind in TWO_WORD_KINDS), 0, constant, difference)])
+
+
+def results(sheet):
+    """How many operand values give each difference of the lone line's results."""
+    n, line, (first, second) = sheet.n, sheet.lines[0], sheet.inputs
+    return Counter(apply(n, line, x, y) ^ apply(n, line, x ^ first, y ^ second)
+                   for x in range(2**n) for y in (range(2**n) if line.kind in TWO_WORD_KINDS else (0,)))
+
+
+def agrees(kind, n, report, count):
+    """Whether a report says what the count of fitting operand values says."""
+    number, weight, chains, fitting = report
+    values = 2**(2 * n if kind in TWO_WORD_KINDS else n)
+    if number == 0:
+        return count == 0
+    if number == 1:
+        return kind <= 4 and count == values
+    if number == 2:
+        return kind == 5 and weight % 16 == 0 and count * 2**(weight // 16) == values
+    return kind == 6 and 0 < count == fitting and 2**(16 * n - weight) <= count**16 <= 2**(16 * n - weight + 3 * chains)
+
+
+def shown(report):
+    return f" {NAMES[report[0]]} {report[1]} {report[2]} {report[3]}"
+
+
+def differential(name, kind, n, amount=0, constant=0, first=0, second=0, difference=0):
+    """A case of one differential; returns its report."""
+    sheet = lone(kind, n, amount, constant, first, second, difference)
+    report = line_report(sheet, 0)
+    count = count6(n, constant, first, difference) if n == 32 else results(sheet)[difference]
+    assert agrees(kind, n, report, count), name
+    cases.append(f"differential {name}: {kind} {n} {amount} {constant} {first} {second} {difference}\n")
+    answers.append(f"differential {name}:{shown(report)}, count {count}, right\n")
+    return report
+
+
+# All differentials of a kind and a width
+
+def parts(kind, n):
+    """The values of the part that a kind names beside two differences, and the field that it is."""
+    if kind in AMOUNT_KINDS:
+        return range(1, n), "amount"
+    return range(2**n), "constant" if kind in CONSTANT_KINDS else "second"
+
+
+def with_number(checksum, number):
+    return (1000003 * checksum + number) % (2**32 - 5)
+
+
+def every(kind, n):
+    values, field = parts(kind, n)
+    reports, checksum = [], 0
+    for part in values:
+        for first in range(2**n):
+            counts = results(lone(kind, n, first=first, **{field: part}))
+            for difference in range(2**n):
+                report = line_report(lone(kind, n, first=first, difference=difference, **{field: part}), 0)
+                assert agrees(kind, n, report, counts[difference]), (kind, n, part, first, difference)
+                reports.append(report)
+                for number in report:
+                    checksum = with_number(checksum, number)
+    _, weight, chains, fitting = map(sum, zip(*reports))
+    name = f"every differential of kind {kind} and width {n}"
+    cases.append(f"{name}: {kind} {n}\n")
+    answers.append(f"{name}: {len(reports)}, impossible {sum(r[0] == 0 for r in reports)}, wrong 0, weight {weight}, "
+                   f"chains {chains}, N {fitting}, checksum {checksum}\n")
+
+
+def all_differentials():
+    for kind, widths in ((1, (2, 3, 4)), (2, (2, 3, 4)), (3, (2, 3, 4)), (4, (2, 3, 4)), (5, (2, 3, 4, 5)), (6, (2, 3, 4, 5))):
+        for n in widths:
+            every(kind, n)
+
+
+# Document 01's starred cases and misreadings, with the numbers that it prints. The width is 4.
+
+# (a, u, v): N, weight in sixteenths, chains; None where impossible.
+STARRED_6 = {(0, 1, 1): (16, 0, 1), (0, 1, 3): None, (1, 1, 1): None, (1, 1, 3): (8, 16, 1), (3, 4, 4): (4, 32, 1),
+             (3, 4, 12): (12, 8, 1), (5, 8, 8): (16, 0, 0), (0, 0, 0): (16, 0, 0), (7, 0, 1): None}
+# (first, second, stated difference): whole bits.
+STARRED_5 = {(1, 0, 1): 1, (8, 0, 8): 0, (1, 1, 0): 1, (0, 0, 1): None}
+
+
+def constant_added(name, n, a, u, v, form="d"):
+    return differential(f"{name} ({a:{form}},{u:{form}},{v:{form}})", 6, n, constant=a, first=u, difference=v)
+
+
+def words_added(name, n, alpha, beta, gamma):
+    return differential(f"{name} ({alpha},{beta} to {gamma})", 5, n, first=alpha, second=beta, difference=gamma)
+
+
+def starred():
+    for (a, u, v), printed in STARRED_6.items():
+        number, weight, chains, fitting = constant_added("01's starred, kind 6,", 4, a, u, v)
+        assert number == (3 if printed else 0) and (fitting, weight, chains) == (printed or (0, 0, 0))
+    for (alpha, beta, gamma), bits in STARRED_5.items():
+        report = words_added("01's starred, kind 5,", 4, alpha, beta, gamma)
+        assert report == ((0, 0, 0, 0) if bits is None else (2, 16 * bits, 0, 0))
+
+
+def misreadings():
+    assert constant_added("not kind 5 with difference 0,", 4, 0, 1, 3) == (0, 0, 0, 0)
+    assert words_added("kind 5 with difference 0,", 4, 1, 0, 3) == (2, 32, 0, 0)
+    assert words_added("the top position costs nothing,", 4, 8, 0, 8) == (2, 0, 0, 0)
+    assert constant_added("counted and not certain,", 4, 5, 8, 8) == (3, 0, 0, 16)
+
+
+# Differentials of source 000
+
+def example_1():
+    report = constant_added("000's Example 1", 10, 0b1000101110, 0b1010001110, 0b1010001010, "b")
+    assert report[3] == 2**10 * 5 // 16
+
+
+# LEA's key schedule: in round i, T[0] becomes its sum with constant i mod 4, rotated left by i, itself rotated left by 1.
+LEA_CONSTANTS = (0xC3EFE9DB, 0x44626B02, 0x79E27C8A, 0x78DF30EC)
+# Table 15's rows whose key schedule costs: round, and the weight in bits that 000 prints for it.
+TABLE_15 = {0: 0.408, 1: 0.462, 2: 0.695, 6: 1.0}
+# Two of our own, (a, u, v), with 27 and 22 states 000 in a row.
+LONG_QUIET = ((0x9E3779B9, 0x40000004, 0x40000004), (0x6ED9EBA1, 0x20000010, 0xE0000070))
+
+
+def table_15():
+    for i, bits in TABLE_15.items():
+        u = rotl(32, 0x10000000, i) if i else 0x10000000
+        a = rotl(32, LEA_CONSTANTS[i % 4], i) if i else LEA_CONSTANTS[0]
+        _, _, _, fitting = constant_added(f"000's Table 15, round {i},", 32, a, u, u, "08x")
+        assert abs(fitting / 2**32 - 2**-bits) < 0.001
+        assert i != 0 or fitting == 3238093392
+
+
+def long_quiet():
+    for a, u, v in LONG_QUIET:
+        constant_added("long quiet stretch", 32, a, u, v, "08x")
+
+
+# Whole sheets
+
+def buffer_answer(sheet, refusal, length):
+    """What is answered for a buffer of a length, with its bytes afterwards."""
+    data = b"" if refusal else report_bytes(sheet)
+    if not refusal and length < len(data):
+        refusal, data = " refused 18 0", b""
+    answer = refusal or f" written {len(data)}"
+    return f"\n  buffer of {length}{answer} [{(data + bytes([0xA5]) * (length - len(data))).hex()}]"
+
+
+def sheet_answer(data):
+    try:
+        sheet, refusal = read(data), ""
+    except Refused as refused:
+        sheet, refusal = Sheet(0, [], []), f" {refused}"
+    count = len(sheet.lines)
+    reports = [shown(line_report(sheet, k)) for k in range(count)] + [refusal or " refused 17 0"]
+    lines = "".join(f"\n  line {k}{report}" for k, report in enumerate(reports))
+    total = refusal or " %d %d %d" % totals(sheet)
+    lengths = [16 * count - 1, 16 * count, 16 * count + 5]
+    return f"{lines}\n  totals{total}" + "".join(buffer_answer(sheet, refusal, n) for n in lengths if 0 <= n)
+
+
+def add_sheet(name, data):
+    """A sheet that the program seals; its checks are left 0."""
+    sheet = read(data)
+    cases.append(case_line(f"sheet {name}", sheet.pack(sealed=False)))
+    answers.append(f"sheet {name}:{sheet_answer(data)}\n")
+
+
+def add_unsealed(name, data, refusal):
+    """A sheet that the program leaves as it is, and that reading has to refuse."""
+    assert sheet_answer(data).startswith(f"\n  line 0 refused {refusal}\n"), name
+    cases.append(case_line(f"unsealed {name}", data))
+    answers.append(f"unsealed {name}:{sheet_answer(data)}\n")
+
+
+def spread(n, k):
+    return k * 2654435761 // 2**7 % 2**n
+
+
+def trail(n, m, count):
+    """A sheet with lines of all kinds. Most state a difference that some operand values have, every fifth another one."""
+    sheet = Sheet(n, [spread(n, j + 1) for j in range(m)], [])
+    for k in range(count):
+        kind, last = 1 + k % 6, m + k - 1
+        line = Line(kind, first=last)
+        line.amount = 1 + k % (n - 1) if kind in AMOUNT_KINDS else 0
+        line.second = last // 2 if kind in TWO_WORD_KINDS else 0
+        line.constant = spread(n, k + 11) if kind in CONSTANT_KINDS else 0
+        known, x, y = sheet.differences(), spread(n, k + 3), spread(n, k + 5)
+        line.difference = apply(n, line, x, y) ^ apply(n, line, x ^ known[line.first], y ^ known[line.second])
+        line.difference ^= int(k % 5 == 4)
+        sheet.lines.append(line)
+    return sheet.pack()
+
+
+def whole_sheets():
+    add_sheet("of document 01's example", Sheet(2, [1], [Line(6, constant=1, difference=3)]).pack())
+    for n, m, count in ((8, 2, 12), (16, 3, 31), (5, 4, 32), (32, 8, 248)):
+        add_sheet(f"with {count} lines of all kinds at width {n}", trail(n, m, count))
+
+
+def refused_sheets():
+    good = trail(8, 2, 12)
+    add_unsealed("with a wrong check in its last block", put(good, 2 * BLOCK - 1, good[-1] ^ 1), "2 1")
+    add_unsealed("with width 33", seal_bytes(put(good, 4, 33)), "4 0")
+    add_unsealed("with kind 7 in line 3", seal_bytes(put_field(good, 3, "kind", 7)), "9 3")
+    add_unsealed("of one block", good[:BLOCK], "1 0")
+
+
+if __name__ == "__main__":
+    for group in (all_differentials, starred, misreadings, example_1, table_15, long_quiet, whole_sheets, refused_sheets):
+        group()
+    write("stdin", cases)
+    write("stdout", answers)
