@@ -17,6 +17,5 @@ pub mod Product
 pub mod Logarithms
 pub mod WeightBound
 pub mod Weights
-pub mod Walks
 pub mod WholeWords
 pub mod ReportKinds

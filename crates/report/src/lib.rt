@@ -17,9 +17,9 @@ use crate::lines::report_at;
 use crate::lines::sum_reports;
 use differential::LineReport;
 use differential::Sixteenths;
+use reading::read;
 use sheet::Reading;
 use sheet::Refusal;
-use sheet::read;
 use sheet::refusal_of;
 
 // The bytes of a line's report.

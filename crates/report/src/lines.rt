@@ -11,10 +11,10 @@ use differential::Differential;
 use differential::LineReport;
 use differential::Sixteenths;
 use differential::in_sixteenths;
-use differential::report;
+use fields::lines::difference_at;
+use fields::lines::line_at;
+use line_reports::report;
 use sheet::Header;
-use sheet::lines::difference_at;
-use sheet::lines::line_at;
 
 // The report of line k.
 pub(crate) fn report_at(sheet: &[u8], header: Header, k: usize) -> LineReport

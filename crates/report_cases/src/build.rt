@@ -51,7 +51,7 @@ pub fn report_of(d: Differential) -> LineAnswer {
 fn report_in(sheet: &mut [u8; SHEET_BYTES], d: Differential) -> LineAnswer {
     put_header(sheet, d);
     put_record(sheet, d);
-    sheet::seal(sheet);
+    sealing::seal(sheet);
     report::line_report(sheet, 0)
 }
 

@@ -36,7 +36,7 @@ fn put_sealed(out: &mut [u8], at: usize, sealing: bool, sheet: &mut [u8]) -> usi
 // Seals a sheet, or leaves it as it is.
 fn seal_if(sealing: bool, sheet: &mut [u8]) {
     if sealing {
-        sheet::seal(sheet);
+        sealing::seal(sheet);
     }
 }
 
@@ -56,7 +56,7 @@ fn put_sheet(out: &mut [u8], at: usize, sheet: &[u8]) -> usize {
 fn lines_of(sheet: &[u8]) -> usize
     ensures { λ r. ⌜ r ≤ 248 ⌝ }
 {
-    match sheet::read(sheet) {
+    match reading::read(sheet) {
         Reading::Accepted(header) => at_most_248(header.lines),
         Reading::Refused(_) => 0,
     }

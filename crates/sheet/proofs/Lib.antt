@@ -5,8 +5,4 @@ pub mod Calling
 pub mod Settled
 pub mod TrailParts
 pub mod WellFormed
-pub mod OnlyChecks
-pub mod WrittenChecks
-pub mod Demand2
 pub mod Example
-pub mod CheckSums

@@ -4,6 +4,4 @@ pub mod Checks
 pub mod Questions
 pub mod Answers
 pub mod Facts
-pub mod Sealing
 pub mod Example
-pub mod Demands

@@ -1,4 +1,4 @@
-// Runs cases of reading and sealing on `sheet::read` and `sheet::seal`, and prints what comes back.
+// Runs cases of reading and sealing on `reading::read` and `sealing::seal`, and prints what comes back.
 //
 // A case is a line of standard input, `NAME: LENGTH OFFSET=VALUE OFFSET=VALUE ..`: a sheet of LENGTH bytes, at most 65,536,
 // all 0 but those listed. It is answered by a line, `NAME: read ANSWER; seal ANSWER OFFSET=VALUE ..`, that ends with the
@@ -60,8 +60,8 @@ fn run_case(line: &[u8], out: &mut [u8], at: usize) -> usize {
 fn run_sheet(sheet: &mut [u8], before: &[u8], out: &mut [u8], at: usize) -> usize
     requires { ⌜ length (now before) ≡ length (now sheet) ⌝ }
 {
-    let read = put_answer(out, at, b": read", sheet::read(sheet));
-    let sealed = put_answer(out, read, b"; seal", sheet::seal(sheet));
+    let read = put_answer(out, at, b": read", reading::read(sheet));
+    let sealed = put_answer(out, read, b"; seal", sealing::seal(sheet));
     let changed = put_changes(out, sealed, before, sheet);
     put_text(out, changed, b"\n")
 }

@@ -1,0 +1,66 @@
+// The blocks' checks: question 2.
+ghost use mathlib.Core.Path.{_≡_};
+ghost use Prim.Native.Nat.{_+_, _*_, _<_, _≤_};
+ghost use lib.Dec.{eqb};
+ghost use lib.ListN.{length};
+ghost use Rattle.buffers.specs.LittleEndian.{numberAt};
+ghost use Rattle.words.specs.Below.{concat};
+ghost use Rattle.sheet.specs.Asking.{verdict};
+ghost use Rattle.sheet.specs.Checks.{checkOf, checkPosition};
+ghost use Rattle.sheet.specs.Questions.{checkQuestion, checkQuestions};
+ghost use Rattle.sheet.specs.Answers.{readingMeans};
+ghost use Rattle.sheet.specs.Facts.{Whole};
+use buffers::u32_at;
+use sheet::Header;
+use sheet::Mode;
+use sheet::Reading;
+use sheet::refused;
+
+// A block's check: its first 127 numbers and its index, added modulo 2^32.
+pub fn block_check(s: &[u8], block: usize) -> u32
+    requires { ⌜ (512 * block + 512 ≤ length (now s)) × (block < 9) ⌝ }
+    ensures { λ r. ⌜ r ≡ checkOf (now (s .entry)) block ⌝ }
+{
+    let mut sum: u32 = 0;
+    let mut j = 0;
+    while j < 127 {
+        sum = std::num::wrapping_add_u32(sum, u32_at(s, 512 * block + 4 * j));
+        j += 1;
+    }
+    std::num::wrapping_add_u32(sum, block as u32)
+}
+
+// Whether a block's check is right.
+fn check_right(s: &[u8], block: usize) -> bool
+    requires { ⌜ (512 * block + 512 ≤ length (now s)) × (block < 9) ⌝ }
+    ensures { λ r. ⌜ r ≡ eqb (numberAt 4 (now (s .entry)) (checkPosition block)) (checkOf (now (s .entry)) block) ⌝ }
+{
+    u32_at(s, 512 * block + 508) == block_check(s, block)
+}
+
+// Question 2 of every block.
+fn checks_right(s: &[u8], header: Header) -> Reading
+    requires { ⌜ Whole (now s) header ⌝ }
+    ensures { λ r. ⌜ readingMeans r ≡ verdict (concat (header .blocks) (checkQuestion (now (s .entry)))) header ⌝ }
+{
+    let blocks = header.blocks;
+    let mut block = 0;
+    while block < blocks {
+        if !check_right(s, block) {
+            return refused(2, block);
+        }
+        block += 1;
+    }
+    Reading::Accepted(header)
+}
+
+// Question 2, where the mode asks it.
+pub fn check_stage(s: &[u8], mode: Mode, header: Header) -> Reading
+    requires { ⌜ Whole (now s) header ⌝ }
+    ensures { λ r. ⌜ readingMeans r ≡ verdict (checkQuestions mode (now (s .entry)) header) header ⌝ }
+{
+    match mode {
+        Mode::Read => checks_right(s, header),
+        Mode::Seal => Reading::Accepted(header),
+    }
+}

@@ -1,0 +1,40 @@
+use native.Mathlib.Omega.{arith}
+use mathlib.Core.Path.{_≡_}
+use mathlib.Core.Bool.{true}
+use borrow.Author.Needs.{needs}
+use Rattle.sheet.specs.Questions.{within, amountRight}
+use Rattle.sheet.proofs.Testing.{testing}
+use Rattle.trail.specs.Kinds.{kindOf, usesAmount}
+use Rattle.trail.proofs.KindTests.{kind-tests, amount-used}
+use Rattle.sheet.specs.Questions.{amountRight}
+use Rattle.trail.proofs.KindTests.{kind-tests}
+use Rattle.line_questions.proofs.amount_right.Tie as tie
+use Rattle.line_questions.proofs.amount_right.Statement.{statement}
+
+sub-within : tie.Need-sub-within
+sub-within c = search needs
+
+cast-within : tie.Need-cast-within
+cast-within c = search needs
+
+within-requires : tie.Need-within-requires
+within-requires c κs = search needs
+
+returns : tie.Need-returns
+unfolding amountRight
+returns c =
+    let kind = c .before .before .before .before .args .line .kind in
+    let used : usesAmount (kindOf kind) ≡ true = amount-used kind (omega arith) (omega arith) in
+    rw (c .within .ensures, used)
+
+returns-2 : tie.Need-returns-2
+unfolding amountRight
+returns-2 c = search (testing, kind-tests) depth 8
+
+returns-3 : tie.Need-returns-3
+unfolding amountRight
+returns-3 c = search (testing, kind-tests) depth 8
+
+pub amount-right-spec : {M : Type 1} → statement M
+amount-right-spec =
+    tie.close (tie.spec sub-within cast-within within-requires returns returns-2 returns-3)

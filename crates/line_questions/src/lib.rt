@@ -1,0 +1,137 @@
+// Questions 9 to 15, of each line (document 01, "Questions, in order").
+ghost use mathlib.Core.Path.{_≡_};
+ghost use Prim.Native.Nat.{_<_, _≤_};
+ghost use mathlib.Core.Bool.{_&&_};
+ghost use lib.Dec.{eqb};
+ghost use Rattle.words.specs.Below.{concat};
+ghost use Rattle.sheet.specs.Asking.{verdict};
+ghost use Rattle.sheet.specs.Questions.{operandsEarlier, operandsDiffer, amountRight, constantRight, unusedZero, recordQuestions, lineQuestions};
+ghost use Rattle.sheet.specs.Answers.{readingMeans};
+ghost use Rattle.sheet.specs.Facts.{Whole, Limited};
+use fields::record_of;
+use fields::tests::within;
+use sheet::Header;
+use sheet::Mode;
+use sheet::Reading;
+use sheet::Record;
+use sheet::refused;
+use words::is_word;
+
+// Whether each operand that the kind uses names a word before the given one.
+fn operands_earlier(line: Record, word: usize) -> bool
+    ensures { λ r. ⌜ r ≡ operandsEarlier line word ⌝ }
+{
+    if word <= line.first {
+        return false;
+    }
+    let kind = line.kind;
+    match kind {
+        1 | 5 => line.second < word,
+        _ => true,
+    }
+}
+
+// Whether the operands of kind 5 name different words.
+fn operands_differ(line: Record) -> bool
+    ensures { λ r. ⌜ r ≡ operandsDiffer line ⌝ }
+{
+    let kind = line.kind;
+    match kind {
+        5 => line.first != line.second,
+        _ => true,
+    }
+}
+
+// Whether the amount of kinds 3 and 4 is from 1 to n - 1.
+fn amount_right(line: Record, n: u32) -> bool
+    requires { ⌜ 1 ≤ n ⌝ }
+    ensures { λ r. ⌜ r ≡ amountRight line n ⌝ }
+{
+    let kind = line.kind;
+    match kind {
+        3..=4 => within(1, n as usize - 1, line.amount as usize),
+        _ => true,
+    }
+}
+
+// Whether the constant of kinds 2 and 6 is a word.
+fn constant_right(line: Record, n: u32) -> bool
+    requires { ⌜ (1 ≤ n) × (n ≤ 64) ⌝ }
+    ensures { λ r. ⌜ r ≡ constantRight line n ⌝ }
+{
+    let kind = line.kind;
+    match kind {
+        2 | 6 => is_word(n, line.constant),
+        _ => true,
+    }
+}
+
+// Whether two fields are zero.
+fn both_zero(a: u64, b: u64) -> bool
+    ensures { λ r. ⌜ r ≡ (eqb a 0 && eqb b 0) ⌝ }
+{
+    a == 0 && b == 0
+}
+
+// Whether the zero field and the fields that the kind does not use are zero.
+fn unused_zero(line: Record) -> bool
+    requires { ⌜ (1 ≤ line .kind) × (line .kind ≤ 6) ⌝ }
+    ensures { λ r. ⌜ r ≡ unusedZero line ⌝ }
+{
+    if line.zero != 0 {
+        return false;
+    }
+    let kind = line.kind;
+    match kind {
+        1 | 5 => both_zero(line.amount as u64, line.constant),
+        3..=4 => both_zero(line.second as u64, line.constant),
+        _ => both_zero(line.amount as u64, line.second as u64),
+    }
+}
+
+// Questions 9 to 15 of line k's record.
+fn record_stage(mode: Mode, header: Header, k: usize, line: Record) -> Reading
+    requires { ⌜ Limited header × (k < header .lines) ⌝ }
+    ensures { λ r. ⌜ readingMeans r ≡ verdict (recordQuestions mode header k line) header ⌝ }
+{
+    let n = header.width;
+    if !within(1, 6, line.kind as usize) {
+        return refused(9, k);
+    }
+    if !operands_earlier(line, header.inputs + k) {
+        return refused(10, k);
+    }
+    if !operands_differ(line) {
+        return refused(11, k);
+    }
+    if !amount_right(line, n) {
+        return refused(12, k);
+    }
+    if !constant_right(line, n) {
+        return refused(13, k);
+    }
+    if !is_word(n, line.difference) {
+        return refused(14, k);
+    }
+    if !unused_zero(line) {
+        return refused(15, k);
+    }
+    Reading::Accepted(header)
+}
+
+// Questions 9 to 15, line by line.
+pub fn lines_stage(s: &[u8], mode: Mode, header: Header) -> Reading
+    requires { ⌜ Whole (now s) header × Limited header ⌝ }
+    ensures { λ r. ⌜ readingMeans r ≡ verdict (concat (header .lines) (lineQuestions mode (now (s .entry)) header)) header ⌝ }
+{
+    let lines = header.lines;
+    let mut k = 0;
+    while k < lines {
+        let answer = record_stage(mode, header, k, record_of(s, header, k));
+        let Reading::Accepted(_) = answer else {
+            return answer;
+        };
+        k += 1;
+    }
+    Reading::Accepted(header)
+}

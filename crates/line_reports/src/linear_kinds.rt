@@ -1,0 +1,37 @@
+// Kinds 1 to 4, whose result's difference is the same for all operand values.
+ghost use mathlib.Core.Path.{_≡_};
+ghost use Prim.Native.Nat.{_≤_};
+ghost use Rattle.differential.specs.Demand2.{Proper};
+ghost use Rattle.differential.specs.Report.{reportMeans, reportOf, givenDifference};
+use differential::Differential;
+use differential::LineReport;
+use words::rotate_left;
+use words::rotate_right;
+
+// Certain if the stated difference is the one that the operands' differences give, else impossible.
+pub(crate) fn certain_if(d: Differential) -> LineReport
+    requires { ⌜ Proper d × (d .width ≤ 32) × (d .line .kind ≤ 4) ⌝ }
+    ensures { λ r. ⌜ reportMeans r ≡ reportOf d ⌝ }
+{
+    let line = d.line;
+    if line.difference == given_difference(d) {
+        LineReport::Certain
+    } else {
+        LineReport::Impossible
+    }
+}
+
+// The XOR, copy or rotation of the operands' differences.
+fn given_difference(d: Differential) -> u64
+    requires { ⌜ Proper d × (d .width ≤ 32) × (d .line .kind ≤ 4) ⌝ }
+    ensures { λ r. ⌜ r ≡ givenDifference d ⌝ }
+{
+    let line = d.line;
+    let kind = line.kind;
+    match kind {
+        1 => d.first ^ d.second,
+        3 => rotate_left(d.width, line.amount, d.first),
+        4 => rotate_right(d.width, line.amount, d.first),
+        _ => d.first,
+    }
+}

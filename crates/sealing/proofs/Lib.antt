@@ -1,0 +1,3 @@
+pub mod OnlyChecks
+pub mod WrittenChecks
+pub mod Demand2
