@@ -3,4 +3,3 @@ pub mod SmallReports
 pub mod Matched
 pub mod Demand2
 pub mod Sums
-pub mod ReportBytes

@@ -1,20 +1,12 @@
 -- A match tells which report was given. What holds of the one that it found holds of the one that was given, and the other way.
-use Prim.Native.Nat.{ℕ}
 use mathlib.Core.Path.{_≡_, sym, subst}
-use mathlib.Core.List.{List}
-use Rattle.buffers.specs.Overwrite.{overwrite}
 use Rattle.differential.specs.Report.{reportMeans}
 use Rattle.differential.specs.declared.LineReport.{LineReport}
-use Rattle.report.specs.Buffer.{reportBytes}
 use Rattle.report.specs.Totals.{Sums, withReport, SmallReport}
 
 module _ {given found : LineReport} (told : given ≡ found) where
   pub small-found : SmallReport (reportMeans given) → SmallReport (reportMeans found)
   small-found = subst (λ (r : LineReport). SmallReport (reportMeans r)) told
-
-  pub bytes-given : (at : ℕ) (out : List ℕ) {after : List ℕ}
-      → after ≡ overwrite at (reportBytes (reportMeans found)) out → after ≡ overwrite at (reportBytes (reportMeans given)) out
-  bytes-given at out {after} = subst (λ (r : LineReport). after ≡ overwrite at (reportBytes (reportMeans r)) out) (sym told)
 
   pub sums-given : (s : Sums) {t : Sums} → t ≡ withReport s (reportMeans found) → t ≡ withReport s (reportMeans given)
   sums-given s {t} = subst (λ (r : LineReport). t ≡ withReport s (reportMeans r)) (sym told)

@@ -1,18 +1,14 @@
-// A sheet's line reports (document 01). The calls that users make are `line_report`, `sheet_totals` and `write_reports`.
-mod buffer;
-mod lines;
+// A sheet's line reports (document 01). The calls that users make are `line_report` and `sheet_totals`.
+pub mod lines;
 
 ghost use mathlib.Core.Path.{_≡_};
-ghost use Prim.Native.Nat.{_*_};
 ghost use Rattle.sheet.specs.Asking.{verdict};
-ghost use Rattle.sheet.specs.Fields.{headerOf, trailOf};
+ghost use Rattle.sheet.specs.Fields.{trailOf};
 ghost use Rattle.sheet.specs.Questions.{questions};
 ghost use Rattle.sheet.specs.declared.Mode.the-variants.{Read};
 ghost use Rattle.report.specs.Lines.{lineReport};
 ghost use Rattle.report.specs.Totals.{sheetTotals};
-ghost use Rattle.report.specs.Buffer.{bytesNeeded};
-ghost use Rattle.report.specs.Answers.{lineMeans, totalsMeans, bufferMeans, lineAsks, bufferAsks, bufferAfter};
-use crate::buffer::put_reports;
+ghost use Rattle.report.specs.Answers.{lineMeans, totalsMeans, lineAsks};
 use crate::lines::report_at;
 use crate::lines::sum_reports;
 use differential::LineReport;
@@ -21,9 +17,6 @@ use reading::read;
 use sheet::Reading;
 use sheet::Refusal;
 use sheet::refusal_of;
-
-// The bytes of a line's report.
-const REPORT_BYTES: usize = 16;
 
 // The impossible lines, the sum of the others' weights, and the chains.
 pub struct Totals {
@@ -39,12 +32,6 @@ pub enum LineAnswer {
 
 pub enum TotalsAnswer {
     Given(Totals),
-    Refused(Refusal),
-}
-
-// How many bytes were written, or the refusal.
-pub enum BufferAnswer {
-    Written(usize),
     Refused(Refusal),
 }
 
@@ -74,23 +61,4 @@ pub fn sheet_totals(sheet: &[u8]) -> TotalsAnswer
         return TotalsAnswer::Refused(refusal_of(reading));
     };
     TotalsAnswer::Given(sum_reports(sheet, header))
-}
-
-// Writes the reports of all lines, 16 bytes each, from the buffer's start.
-pub fn write_reports(sheet: &[u8], out: &mut [u8]) -> BufferAnswer
-    ensures { λ r. ⌜ (bufferMeans r ≡ verdict (bufferAsks (now (sheet .entry)) (now (out .entry))) (bytesNeeded (headerOf (now (sheet .entry)) .lines))) × (now (out .exit) ≡ bufferAfter (now (sheet .entry)) (now (out .entry))) ⌝ }
-{
-    let reading = read(sheet);
-    let Reading::Accepted(header) = reading else {
-        return BufferAnswer::Refused(refusal_of(reading));
-    };
-    let need = REPORT_BYTES * header.lines;
-    if out.len() < need {
-        return BufferAnswer::Refused(Refusal {
-            number: 18,
-            place: 0,
-        });
-    }
-    put_reports(sheet, header, out);
-    BufferAnswer::Written(need)
 }

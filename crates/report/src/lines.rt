@@ -17,7 +17,7 @@ use line_reports::report;
 use sheet::Header;
 
 // The report of line k.
-pub(crate) fn report_at(sheet: &[u8], header: Header, k: usize) -> LineReport
+pub fn report_at(sheet: &[u8], header: Header, k: usize) -> LineReport
     requires { ⌜ Read (now sheet) header × (k < header .lines) ⌝ }
     ensures { λ r. ⌜ reportMeans r ≡ lineReport (trailOf (now (sheet .entry))) k ⌝ }
 {

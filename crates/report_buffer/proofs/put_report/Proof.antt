@@ -4,10 +4,11 @@ use native.Mathlib.Omega.{arith}
 use mathlib.Core.Path.{ap, _∙_}
 use borrow.Author.Needs.{needs}
 use Rattle.buffers.specs.Overwrite.{overwrite}
-use Rattle.report.specs.Buffer.{fieldBytes}
-use Rattle.report.proofs.Matched.{small-found, bytes-given}
-use Rattle.report.proofs.buffer.put_report.Tie as tie
-use Rattle.report.proofs.buffer.put_report.Statement.{statement}
+use Rattle.report_buffer.specs.Buffer.{fieldBytes}
+use Rattle.report.proofs.Matched.{small-found}
+use Rattle.report_buffer.proofs.MatchedBytes.{bytes-given}
+use Rattle.report_buffer.proofs.put_report.Tie as tie
+use Rattle.report_buffer.proofs.put_report.Statement.{statement}
 
 enum-told : tie.Need-enum-told
 enum-told c = search needs

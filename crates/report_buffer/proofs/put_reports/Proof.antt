@@ -13,14 +13,14 @@ use Rattle.differential.specs.Report.{Report}
 use Rattle.sheet.specs.declared.Header.{Header}
 use Rattle.sheet.specs.Fields.{trailOf}
 use Rattle.sheet.proofs.TrailParts.{trail-lines}
 use Rattle.report.specs.Lines.{lineReport}
 use Rattle.report.specs.Totals.{SmallReport}
-use Rattle.report.specs.Buffer.{reportBytes, sheetBytes}
+use Rattle.report_buffer.specs.Buffer.{reportBytes, sheetBytes}
 use Rattle.report.proofs.Demand2.{sheet-report-small}
-use Rattle.report.proofs.ReportBytes.{reports-none, reports-next}
-use Rattle.report.specs.Buffer.{reportBytes}
-use Rattle.report.proofs.buffer.put_reports.Tie as tie
-use Rattle.report.proofs.buffer.put_reports.Statement.{statement}
+use Rattle.report_buffer.proofs.ReportBytes.{reports-none, reports-next}
+use Rattle.report_buffer.specs.Buffer.{reportBytes}
+use Rattle.report_buffer.proofs.put_reports.Tie as tie
+use Rattle.report_buffer.proofs.put_reports.Statement.{statement}
 
 abbrev Inv-loop : tie.InvT-loop
 Inv-loop sheet header out₀ lines k₀ out k = (k ≤ lines) × (length out ≡ length out₀) × (out ≡ overwrite 0 (concat k (λ i. reportBytes (lineReport (trailOf sheet) i))) out₀)

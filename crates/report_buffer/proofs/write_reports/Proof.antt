@@ -11,12 +11,12 @@ use Rattle.sheet.specs.Asking.Verdict.{accepted, refused}
 use Rattle.sheet.specs.Fields.{headerOf}
 use Rattle.sheet.proofs.WellFormed.{accepted-limited}
 use Rattle.sheet.proofs.Calling.{refused-by-reading, accepted-by-reading, own-questions, no-room, some-room}
-use Rattle.report.specs.Buffer.{bytesNeeded}
-use Rattle.report.specs.Answers.{bufferAsks}
-use Rattle.report.proofs.ReportBytes.{buffer-kept, buffer-written}
+use Rattle.report_buffer.specs.Buffer.{bytesNeeded}
+use Rattle.report_buffer.specs.Answers.{bufferAsks}
+use Rattle.report_buffer.proofs.ReportBytes.{buffer-kept, buffer-written}
 use Rattle.sheet.specs.Asking.Verdict.{accepted}
-use Rattle.report.proofs.write_reports.Tie as tie
-use Rattle.report.proofs.write_reports.Statement.{statement}
+use Rattle.report_buffer.proofs.write_reports.Tie as tie
+use Rattle.report_buffer.proofs.write_reports.Statement.{statement}
 
 read-requires : tie.Need-read-requires
 read-requires c κs = search needs

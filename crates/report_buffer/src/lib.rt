@@ -1,22 +1,56 @@
-// The report buffer: 16 bytes a line.
+// The report buffer: the reports of all lines, 16 bytes each (document 01, "Line reports"). The call that users make is
+// `write_reports`.
 ghost use mathlib.Core.Path.{_≡_};
 ghost use Prim.Native.Nat.{_+_, _*_, _<_, _≤_};
 ghost use lib.ListN.{length};
 ghost use Rattle.buffers.specs.Overwrite.{overwrite};
-ghost use Rattle.sheet.specs.Fields.{trailOf};
+ghost use Rattle.sheet.specs.Asking.{verdict};
+ghost use Rattle.sheet.specs.Fields.{headerOf, trailOf};
 ghost use Rattle.sheet.specs.Facts.{Read};
 ghost use Rattle.differential.specs.Report.{Report, reportMeans};
 ghost use Rattle.report.specs.Totals.{SmallReport};
-ghost use Rattle.report.specs.Buffer.{reportBytes, fieldBytes, sheetBytes};
-use crate::REPORT_BYTES;
-use crate::lines::report_at;
+ghost use Rattle.report_buffer.specs.Buffer.{reportBytes, fieldBytes, sheetBytes, bytesNeeded};
+ghost use Rattle.report_buffer.specs.Answers.{bufferMeans, bufferAsks, bufferAfter};
 use buffers::put_number;
 use differential::LineReport;
 use differential::in_sixteenths;
+use reading::read;
+use report::lines::report_at;
 use sheet::Header;
+use sheet::Reading;
+use sheet::Refusal;
+use sheet::refusal_of;
+
+// The bytes of a line's report.
+const REPORT_BYTES: usize = 16;
+
+// How many bytes were written, or the refusal.
+pub enum BufferAnswer {
+    Written(usize),
+    Refused(Refusal),
+}
+
+// Writes the reports of all lines, 16 bytes each, from the buffer's start.
+pub fn write_reports(sheet: &[u8], out: &mut [u8]) -> BufferAnswer
+    ensures { λ r. ⌜ (bufferMeans r ≡ verdict (bufferAsks (now (sheet .entry)) (now (out .entry))) (bytesNeeded (headerOf (now (sheet .entry)) .lines))) × (now (out .exit) ≡ bufferAfter (now (sheet .entry)) (now (out .entry))) ⌝ }
+{
+    let reading = read(sheet);
+    let Reading::Accepted(header) = reading else {
+        return BufferAnswer::Refused(refusal_of(reading));
+    };
+    let need = REPORT_BYTES * header.lines;
+    if out.len() < need {
+        return BufferAnswer::Refused(Refusal {
+            number: 18,
+            place: 0,
+        });
+    }
+    put_reports(sheet, header, out);
+    BufferAnswer::Written(need)
+}
 
 // Writes the reports of all lines.
-pub(crate) fn put_reports(sheet: &[u8], header: Header, out: &mut [u8])
+fn put_reports(sheet: &[u8], header: Header, out: &mut [u8])
     requires { ⌜ Read (now sheet) header × (16 * header .lines ≤ length (now out)) ⌝ }
     ensures { λ _. ⌜ now (out .exit) ≡ overwrite 0 (sheetBytes (trailOf (now (sheet .entry)))) (now (out .entry)) ⌝ }
 {

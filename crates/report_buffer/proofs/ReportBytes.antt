@@ -17,8 +17,8 @@ use Rattle.sheet.specs.Asking.{verdict}
 use Rattle.sheet.specs.Asking.Verdict.{accepted, refused}
 use Rattle.sheet.specs.Fields.{trailOf}
 use Rattle.sheet.proofs.Asking.{no-verdict, yes-verdict}
-use Rattle.report.specs.Buffer.{fieldBytes, reportBytes, sheetBytes}
-use Rattle.report.specs.Answers.{bufferAsks, bufferAfter}
+use Rattle.report_buffer.specs.Buffer.{fieldBytes, reportBytes, sheetBytes}
+use Rattle.report_buffer.specs.Answers.{bufferAsks, bufferAfter}
 
 pub length-fields : (number chains weight fitting : ℕ) → length (fieldBytes number chains weight fitting) ≡ 16
 unfolding fieldBytes

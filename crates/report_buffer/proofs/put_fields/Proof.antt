@@ -1,7 +1,7 @@
 use borrow.Author.Needs.{needs}
-use Rattle.report.proofs.ReportBytes.{fields-written}
-use Rattle.report.proofs.buffer.put_fields.Tie as tie
-use Rattle.report.proofs.buffer.put_fields.Statement.{statement}
+use Rattle.report_buffer.proofs.ReportBytes.{fields-written}
+use Rattle.report_buffer.proofs.put_fields.Tie as tie
+use Rattle.report_buffer.proofs.put_fields.Statement.{statement}
 
 put-number-requires : tie.Need-put-number-requires
 put-number-requires c κs = search needs
