@@ -5,4 +5,5 @@ pub mod Calling
 pub mod Settled
 pub mod TrailParts
 pub mod WellFormed
+pub mod CheckedBlocks
 pub mod Example
