@@ -1,13 +1,13 @@
 // All differentials of a kind and a width.
 ghost use Prim.Native.Nat.{_≤_, _<_};
 use crate::build::differential_of;
-use crate::count::largest;
 use crate::one::byte_of;
 use crate::one::compare;
 use crate::tally::Tally;
 use crate::tally::empty;
 use crate::tally::put_tally;
 use crate::tally::with_outcome;
+use brute_force::count::largest;
 use differential::Differential;
 use text::parse::number;
 use text::print::put_text;

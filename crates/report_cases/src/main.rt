@@ -6,12 +6,9 @@
 // - `differential ..: KIND WIDTH AMOUNT CONSTANT FIRST SECOND DIFFERENCE`, one, with the differences of both operands;
 // - `sheet ..: LENGTH OFFSET=VALUE ..`, a sheet of LENGTH bytes, all 0 but those listed, that is sealed first;
 // - `unsealed ..: LENGTH OFFSET=VALUE ..`, a sheet that is left as it is.
-mod agree;
 mod build;
-mod count;
 mod every;
 mod one;
-mod power;
 mod print;
 mod rows;
 mod tally;

@@ -1,11 +1,11 @@
 // One differential: its report held against the count.
-use crate::agree::agrees;
 use crate::build::differential_of;
 use crate::build::report_of;
-use crate::count::count_fitting;
-use crate::count::operand_bits;
 use crate::print::put_refusal;
 use crate::print::put_report;
+use brute_force::agree::agrees;
+use brute_force::count::count_fitting;
+use brute_force::count::operand_bits;
 use differential::Differential;
 use differential::LineReport;
 use report::LineAnswer;

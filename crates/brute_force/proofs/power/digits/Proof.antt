@@ -1,8 +1,8 @@
 -- Every limb is within the array.
 use Prim.Native.Nat.{_≤_, _-_}
 use borrow.Author.Needs.{needs}
-use Rattle.report_cases.proofs.power.digits.Statement.{statement}
-use Rattle.report_cases.proofs.power.digits.Tie as tie
+use Rattle.brute_force.proofs.power.digits.Statement.{statement}
+use Rattle.brute_force.proofs.power.digits.Tie as tie
 
 abbrev Inv-loop : tie.InvT-loop
 Inv-loop limbs count₀ i₀ count i = i ≤ 34

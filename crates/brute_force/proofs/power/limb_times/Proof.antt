@@ -2,8 +2,8 @@
 use Prim.Native.Nat.{ℕ, _%_, _*_, _^_, _≤_}
 use native.Mathlib.Nat.{mul-le-mul}
 use native.Mathlib.Omega.{arith}
-use Rattle.report_cases.proofs.power.limb_times.Statement.{statement}
-use Rattle.report_cases.proofs.power.limb_times.Tie as tie
+use Rattle.brute_force.proofs.power.limb_times.Statement.{statement}
+use Rattle.brute_force.proofs.power.limb_times.Tie as tie
 
 bounded : (limb number : ℕ) → number ≤ 2 ^ 32 → limb % 65536 * number ≤ 65535 * 2 ^ 32
 bounded limb number most = mul-le-mul {n₁ = limb % 65536} {n₂ = 65535} (omega arith) most

@@ -1,8 +1,8 @@
 -- The carry stays below the number's bound.
 use Prim.Native.Nat.{_≤_, _-_, _^_}
 use borrow.Author.Needs.{needs}
-use Rattle.report_cases.proofs.power.times.Statement.{statement}
-use Rattle.report_cases.proofs.power.times.Tie as tie
+use Rattle.brute_force.proofs.power.times.Statement.{statement}
+use Rattle.brute_force.proofs.power.times.Tie as tie
 
 abbrev Inv-loop : tie.InvT-loop
 Inv-loop number limbs product₀ carry₀ i₀ product carry i = (i ≤ 34) × (carry ≤ 2 ^ 32)

@@ -2,8 +2,8 @@
 use native.Mathlib.Omega.{arith}
 use lib.Count.{leading-le}
 use borrow.Author.Needs.{needs}
-use Rattle.report_cases.proofs.power.digits_with.Statement.{statement}
-use Rattle.report_cases.proofs.power.digits_with.Tie as tie
+use Rattle.brute_force.proofs.power.digits_with.Statement.{statement}
+use Rattle.brute_force.proofs.power.digits_with.Tie as tie
 
 returns : tie.Need-returns
 returns c = search needs

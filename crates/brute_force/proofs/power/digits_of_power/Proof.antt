@@ -1,8 +1,8 @@
 -- Sixteen factors.
 use Prim.Native.Nat.{_≤_, _-_}
 use borrow.Author.Needs.{needs}
-use Rattle.report_cases.proofs.power.digits_of_power.Statement.{statement}
-use Rattle.report_cases.proofs.power.digits_of_power.Tie as tie
+use Rattle.brute_force.proofs.power.digits_of_power.Statement.{statement}
+use Rattle.brute_force.proofs.power.digits_of_power.Tie as tie
 
 abbrev Inv-loop : tie.InvT-loop
 Inv-loop number power₀ i₀ power i = i ≤ 16
