@@ -162,6 +162,12 @@ unfolding total
 total-mul zero c f = sym (mul-zero c)
 total-mul (suc b) c f = ap (λ (z : ℕ). z + c * f b) (total-mul b c f) ∙ sym (mul-add c (total b f) (f b))
 
+-- the same value everywhere
+pub total-same : (b c : ℕ) → total b (λ k. c) ≡ c * b
+unfolding total
+total-same zero c = omega arith
+total-same (suc b) c = omega (arith, total-same b c)
+
 -- The pairs of a number below a and a number below b, counted one by one or row by row.
 pub count-product : (a b : ℕ) (p : ℕ → ℕ → Bool) → 0 < b → count (a * b) (λ z. p (z / b) (z % b)) ≡ total a (λ x. count b (p x))
 unfolding total count
@@ -201,3 +207,8 @@ module _ {A : Type 0} where
   pub concat-cong : (b : ℕ) (f g : ℕ → List A) → ((k : ℕ) → k < b → f k ≡ g k) → concat b f ≡ concat b g
   unfolding concat
   concat-cong = step-cong concat _++_ (λ f g. refl) (λ b f. refl)
+
+  pub length-concat : (b : ℕ) (f : ℕ → List A) → length (concat b f) ≡ total b (λ k. length (f k))
+  unfolding concat total
+  length-concat zero f = refl
+  length-concat (suc b) f = length-append (concat b f) (f b) ∙ ap (λ (n : ℕ). n + length (f b)) (length-concat b f)

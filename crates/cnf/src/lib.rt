@@ -1,0 +1,67 @@
+// Clauses of gates, written into a lent buffer of numbers.
+ghost use mathlib.Core.Path.{_≡_};
+ghost use mathlib.Core.Bool.{cond};
+ghost use mathlib.Core.List.{[], _∷_};
+ghost use Prim.Native.Nat.{ℕ, _+_, _-_, _^_, _≤_, _<_};
+ghost use lib.ListN.{length};
+ghost use lib.IntN.{negℤ};
+ghost use lib.Signed.{mag};
+ghost use Rattle.buffers.specs.Overwrite.{overwrite};
+ghost use Rattle.cnf.specs.Formulas.{numbers};
+ghost use Rattle.cnf.specs.Gates.{clauseOf};
+ghost use Rattle.cnf.specs.Tables.{tableRow, tableGate, Small};
+use words::bit;
+
+// Writes the clauses that tie the last literal to the others by the table: bit t of the table is the output at the inputs' row t.
+// Returns the next place.
+pub fn put_gate(out: &mut [i32], at: usize, lits: &[i32], table: u32) -> usize
+    requires { ⌜ (1 ≤ length (now lits)) × (length (now lits) ≤ 4) × Small (now lits) × (at + length (numbers (tableGate (now lits) table)) ≤ length (now out)) ⌝ }
+    ensures { λ r. ⌜ (r ≡ at + length (numbers (tableGate (now (lits .entry)) table))) × (now (out .exit) ≡ overwrite at (numbers (tableGate (now (lits .entry)) table)) (now (out .entry))) ⌝ }
+{
+    let rows = 1u32 << lits.len();
+    let mut next = at;
+    let mut row = 0u32;
+    while row < rows {
+        next = put_row(out, next, lits, table, row);
+        row += 1;
+    }
+    next
+}
+
+// Writes a row's clause if the row's output is wrong, and nothing otherwise.
+fn put_row(out: &mut [i32], at: usize, lits: &[i32], table: u32, row: u32) -> usize
+    requires { ⌜ (length (now lits) ≤ 4) × Small (now lits) × (row < 16) × (at + length (numbers (tableRow (now lits) table row)) ≤ length (now out)) ⌝ }
+    ensures { λ r. ⌜ (r ≡ at + length (numbers (tableRow (now (lits .entry)) table row))) × (now (out .exit) ≡ overwrite at (numbers (tableRow (now (lits .entry)) table row)) (now (out .entry))) ⌝ }
+{
+    let output = bit(row as u64, 0);
+    if output == bit(table as u64, row / 2) {
+        at
+    } else {
+        put_clause(out, at, lits, row)
+    }
+}
+
+// Writes the clause of a row, and 0: each literal negated where the row has 1, the first literal's bit highest.
+fn put_clause(out: &mut [i32], at: usize, lits: &[i32], row: u32) -> usize
+    requires { ⌜ (length (now lits) ≤ 4) × Small (now lits) × (at + length (numbers (clauseOf (now lits) row ∷ [])) ≤ length (now out)) ⌝ }
+    ensures { λ r. ⌜ (r ≡ at + length (numbers (clauseOf (now (lits .entry)) row ∷ []))) × (now (out .exit) ≡ overwrite at (numbers (clauseOf (now (lits .entry)) row ∷ [])) (now (out .entry))) ⌝ }
+{
+    let count = lits.len();
+    let mut i = 0;
+    while i < count {
+        let behind = count - 1 - i;
+        let literal = lits[i];
+        out[at + i] = signed(literal, bit(row as u64, behind as u32));
+        i += 1;
+    }
+    out[at + count] = 0;
+    at + count + 1
+}
+
+// The literal, negated where its bit in the row is 1.
+fn signed(literal: i32, one: bool) -> i32
+    requires { ⌜ mag literal < 2 ^ 31 - 1 ⌝ }
+    ensures { λ r. ⌜ r ≡ cond one (negℤ literal) literal ⌝ }
+{
+    if one { -literal } else { literal }
+}
