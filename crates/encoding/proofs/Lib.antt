@@ -1,0 +1,16 @@
+pub mod Bijection
+pub mod Places
+pub mod GivenValues
+pub mod Spelled
+pub mod Numbered
+pub mod Lengths
+pub mod Limits
+pub mod Adder
+pub mod RunLiterals
+pub mod OneRun
+pub mod TrailLiterals
+pub mod BothRuns
+pub mod ReadWords
+pub mod EndsInZero
+pub mod Demand3
+pub mod Example
