@@ -1,7 +1,7 @@
 -- What a call on a sheet comes to, from what reading answered: laws for the calls of other crates, whatever they answer.
 use Prim.Native.Nat.{ℕ, _<_, _≤_}
 use mathlib.Core.Path.{_≡_, sym, ap, _∙_}
-use mathlib.Core.Bool.{true}
+use mathlib.Core.Bool.{true, false}
 use mathlib.Core.List.{List, [], _++_, append-nil}
 use borrow.Author.Tests.{ltb-true, leb-true, lt-ltb, le-ltb, le-leb, lt-leb}
 use Rattle.trail.specs.Trail.{Trail}
@@ -16,7 +16,7 @@ use Rattle.sheet.specs.declared.Refusal.{Refusal}
 use Rattle.sheet.specs.declared.Mode.the-variants.{Read}
 use Rattle.sheet.specs.declared.Reading.{Reading}
 use Rattle.sheet.specs.declared.Reading.the-variants.{Accepted, Refused}
-use Rattle.sheet.proofs.Asking.{go-on, stop, yes-first, Comes, comes}
+use Rattle.sheet.proofs.Asking.{go-on, stop, yes-first, yes-verdict, Comes, comes}
 use Rattle.sheet.proofs.Asking.Comes.{done, yes, no}
 use Rattle.sheet.proofs.Answering.{asked}
 
@@ -74,3 +74,20 @@ module _ {A : Type 0} (a : A) where
   pub some-room : (need room : ℕ) → need ≤ room → accepted a ≡ verdict (roomQuestions need room) a
   unfolding roomQuestions
   some-room need room l = comes (yes (le-leb need room l) done)
+
+  pub no-start : (t : Trail) (x : List ℕ) → isStart t x ≡ false → refused 19 0 ≡ verdict (startQuestions t x) a
+  unfolding startQuestions
+  no-start t x e = comes (no e)
+
+  pub some-start : (t : Trail) (x : List ℕ) → isStart t x ≡ true → accepted a ≡ verdict (startQuestions t x) a
+  unfolding startQuestions
+  some-start t x e = comes (yes e done)
+
+  -- the line number is asked first, and what else a call asks only of a line that is there
+  pub no-line-first : (h : Header) (k : ℕ) (more : List Question) → h .lines ≤ k → refused 17 0 ≡ verdict (lineNumberQuestions h k ++ more) a
+  no-line-first h k more l = sym (stop (lineNumberQuestions h k) more a a (sym (no-line h k l)))
+
+  pub some-line-first : (h : Header) (k : ℕ) (more : List Question) {v : Verdict A} → k < h .lines → v ≡ verdict more a
+      → v ≡ verdict (lineNumberQuestions h k ++ more) a
+  some-line-first h k more l e =
+      e ∙ sym (go-on (lineNumberQuestions h k) more a (yes-verdict (lineNumberQuestions h k) a a (sym (some-line h k l)) .0))

@@ -20,10 +20,11 @@ use Rattle.trail.proofs.KindNumbers.{numberOf, known, number-of}
 use Rattle.sheet.specs.Asking.{allYes}
 use Rattle.sheet.specs.Fields.{headerOf, inputDifference, recordOf, lineOf, trailOf}
 use Rattle.sheet.specs.Questions.{within, lengthQuestions, checkQuestions, inputRight, headerQuestions, operandsEarlier, operandsDiffer, amountRight, constantRight, unusedZero, recordQuestions, lineQuestions, laterQuestions, questions}
-use Rattle.sheet.specs.Facts.{Whole, Limited}
+use Rattle.sheet.specs.Facts.{Whole, Limited, Read}
 use Rattle.sheet.specs.declared.Header.{Header}
 use Rattle.sheet.specs.declared.Record.{Record}
 use Rattle.sheet.specs.declared.Mode.{Mode}
+use Rattle.sheet.specs.declared.Mode.the-variants.{Read as reading}
 use Rattle.sheet.proofs.TrailParts.{trail-inputs, trail-lines, trail-input, trail-line}
 use Rattle.sheet.proofs.Asking.{yes-left, yes-right, yes-at}
 use Rattle.sheet.proofs.Settled.{apart, whole, headed, limited}
@@ -133,3 +134,29 @@ module _ (mode : Mode) (s : List ℕ) (e : allYes (questions mode s) ≡ true) w
     inputs-most = omega (arith, trail-inputs s, accepted-limited .inputs-most);
     lines-most = omega (arith, trail-lines s, accepted-limited .lines-most);
   }
+
+-- ---- the sheet that reading accepted, by the parts that it gave
+
+module _ (s : List ℕ) (h : Header) (read : Read s h) where
+  pub read-width : trailOf s .width ≡ h .width
+  unfolding trailOf
+  read-width = ap (λ (p : Header). p .width) (read .parts)
+
+  pub read-inputs : inputCount (trailOf s) ≡ h .inputs
+  read-inputs = trail-inputs s ∙ ap (λ (p : Header). p .inputs) (read .parts)
+
+  pub read-lines : lineCount (trailOf s) ≡ h .lines
+  read-lines = trail-lines s ∙ ap (λ (p : Header). p .lines) (read .parts)
+
+  pub read-limited : Limited h
+  read-limited = subst Limited (read .parts) (accepted-limited reading s (read .accepted))
+
+  pub read-well-formed : WellFormed (trailOf s)
+  read-well-formed = accepted-well-formed reading s (read .accepted)
+
+  pub line-at-right : (k : ℕ) → k < h .lines → {l : Line} → l ≡ lineAt (trailOf s) k → WellFormedLine (h .width) (h .inputs + k) l
+  line-at-right k less e =
+      subst (WellFormedLine (h .width) (h .inputs + k)) (sym e)
+      (subst (λ (n : ℕ). WellFormedLine n (h .inputs + k) (lineAt (trailOf s) k)) read-width
+      (subst (λ (m : ℕ). WellFormedLine (trailOf s .width) (m + k) (lineAt (trailOf s) k)) read-inputs
+      (read-well-formed .lines-right k (omega (arith, read-lines)))))

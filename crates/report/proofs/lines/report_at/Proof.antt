@@ -1,39 +1,24 @@
-use Prim.Native.Nat.{ℕ, _+_, _≤_, _<_}
+use Prim.Native.Nat.{ℕ, _≤_}
 use mathlib.Core.Path.{_≡_, sym, ap, _∙_, subst}
 use mathlib.Core.List.{List}
-use Prim.Native.Nat.{ℕ, _+_, _<_}
 use native.Mathlib.Omega.{arith}
 use borrow.Author.Needs.{needs}
 use Rattle.trail.specs.declared.Line.{Line}
-use Rattle.trail.specs.Trail.{lineCount, inputCount, lineAt, differenceAt}
+use Rattle.trail.specs.Trail.{lineCount, lineAt, differenceAt}
 use Rattle.trail.proofs.Runs.{second-below}
+use Rattle.differential.specs.declared.Differential.{Differential}
+use Rattle.differential.specs.Demand2.{Proper}
 use Rattle.differential.specs.Report.{reportOf}
 use Rattle.sheet.specs.declared.Header.{Header}
 use Rattle.sheet.specs.declared.Mode.the-variants.{Read as reading}
-use Rattle.sheet.specs.Asking.Verdict.{accepted}
 use Rattle.sheet.specs.Fields.{headerOf, trailOf}
 use Rattle.sheet.specs.Facts.{Read}
-use Rattle.sheet.proofs.TrailParts.{trail-inputs, trail-lines}
-use Rattle.sheet.proofs.WellFormed.{accepted-well-formed, accepted-limited}
+use Rattle.sheet.proofs.TrailParts.{trail-lines}
+use Rattle.sheet.proofs.WellFormed.{accepted-well-formed, accepted-limited, line-at-right}
 use Rattle.report.specs.Lines.{differentialOf, lineReport}
 use Rattle.report.proofs.ProperLines.{proper-line}
-use Rattle.trail.specs.WellFormed.{WellFormedLine}
-use Rattle.differential.specs.declared.Differential.{Differential}
-use Rattle.differential.specs.Demand2.{Proper}
-use Rattle.trail.specs.Trail.{lineCount, inputCount, lineAt}
-use Rattle.sheet.specs.Fields.{trailOf}
-use Rattle.sheet.proofs.WellFormed.{accepted-well-formed}
 use Rattle.report.proofs.lines.report_at.Tie as tie
 use Rattle.report.proofs.lines.report_at.Statement.{statement}
-
-line-right : (s : List ℕ) (h : Header) → Read s h → (k : ℕ) → k < h .lines → {l : Line} → l ≡ lineAt (trailOf s) k
-    → WellFormedLine (trailOf s .width) (h .inputs + k) l
-line-right s h read k less e =
-    let lines : lineCount (trailOf s) ≡ h .lines = trail-lines s ∙ ap (λ (p : Header). p .lines) (read .parts) in
-    let inputs : inputCount (trailOf s) ≡ h .inputs = trail-inputs s ∙ ap (λ (p : Header). p .inputs) (read .parts) in
-    let right = accepted-well-formed reading s (read .accepted) .lines-right k (omega arith) in
-    subst (WellFormedLine (trailOf s .width) (h .inputs + k)) (sym e)
-    (subst (λ (m : ℕ). WellFormedLine (trailOf s .width) (m + k) (lineAt (trailOf s) k)) inputs right)
 
 -- what was read is the trail's differential
 same : (s : List ℕ) (h : Header) → Read s h → (k : ℕ) {l : Line} {x y : ℕ} → l ≡ lineAt (trailOf s) k
@@ -52,13 +37,13 @@ line-at-requires c κs = search needs
 difference-at-requires : tie.Need-difference-at-requires
 difference-at-requires c κs =
     let start = c .before .before in
-    let right = line-right (start .args .sheet .now) (start .args .header) (start .pre .0) (start .args .k) (start .pre .1) (c .line-at .ensures) in
+    let right = line-at-right (start .args .sheet .now) (start .args .header) (start .pre .0) (start .args .k) (start .pre .1) (c .line-at .ensures) in
     (start .pre .0, omega (arith, right .first-earlier))
 
 difference-at-requires-2 : tie.Need-difference-at-requires-2
 difference-at-requires-2 c κs =
     let start = c .before .before .before in
-    let right = line-right (start .args .sheet .now) (start .args .header) (start .pre .0) (start .args .k) (start .pre .1) (c .before .line-at .ensures) in
+    let right = line-at-right (start .args .sheet .now) (start .args .header) (start .pre .0) (start .args .k) (start .pre .1) (c .before .line-at .ensures) in
     (start .pre .0, omega (arith, second-below right))
 
 report-requires : tie.Need-report-requires

@@ -1,0 +1,21 @@
+-- What the code's inner functions may count on of a run's array of words. No call that users make requires any of these.
+use Prim.Native.Nat.{ℕ, _+_, _^_, _<_}
+use mathlib.Core.Path.{_≡_}
+use mathlib.Core.List.{List}
+use lib.ListN.{length, getD, set}
+use Rattle.trail.specs.Trail.{Trail, inputCount}
+use Rattle.trail.specs.Runs.{wordOfLine, runWord}
+
+-- the words made so far, the first ones, are words of n bits
+pub record Holds (n made : ℕ) (words : List ℕ) : Type 0 where
+  pub room : length words ≡ 256
+  pub word : (j : ℕ) → j < made → getD words j 0 < 2 ^ n
+
+-- they are the words of the run from x
+pub record Made (t : Trail) (x : List ℕ) (made : ℕ) (words : List ℕ) : Type 0 where
+  pub room : length words ≡ 256
+  pub same : (j : ℕ) → j < made → getD words j 0 ≡ runWord t x j
+
+-- the array with line k's word
+abbrev pub withLine : Trail → ℕ → List ℕ → List ℕ
+withLine t k words = set words (inputCount t + k) (wordOfLine t k words)

@@ -1,0 +1,74 @@
+// One line after the other, in both runs.
+ghost use mathlib.Core.Path.{_≡_};
+ghost use mathlib.Core.Bool.{true};
+ghost use Prim.Native.Nat.{_+_, _<_, _≤_};
+ghost use lib.Bits.{bitXor};
+ghost use lib.ListN.{getD, set};
+ghost use Rattle.trail.specs.Kinds.{makes};
+ghost use Rattle.trail.specs.Trail.{lineAt};
+ghost use Rattle.trail.specs.WellFormed.{WellFormedLine};
+ghost use Rattle.trail.specs.Runs.{wordOfLine, isStart};
+ghost use Rattle.sheet.specs.Asking.Verdict.{accepted};
+ghost use Rattle.sheet.specs.Fields.{trailOf};
+ghost use Rattle.sheet.specs.Facts.{Read};
+ghost use Rattle.runs.specs.Outcome.{outcome};
+ghost use Rattle.runs.specs.Answers.{runsMeans};
+ghost use Rattle.runs.specs.Facts.{Holds, withLine};
+use crate::RunsAnswer;
+use crate::Words;
+use crate::start::begin;
+use fields::lines::line_at;
+use sheet::Header;
+use trail::Line;
+use trail::word_made;
+
+// Both runs, up to the first line, and in it the lowest bit, where the differences disagree.
+pub(crate) fn run_lines(sheet: &[u8], header: Header, start: &[u64]) -> RunsAnswer
+    requires { ⌜ Read (now sheet) header × (isStart (trailOf (now sheet)) (now start) ≡ true) ⌝ }
+    ensures { λ r. ⌜ runsMeans r ≡ accepted (outcome (trailOf (now (sheet .entry))) (now (start .entry))) ⌝ }
+{
+    let mut first = [0u64; 256];
+    let mut second = [0u64; 256];
+    begin(sheet, header, start, &mut first, &mut second);
+    let lines = header.lines;
+    let n = header.width;
+    let mut k = 0;
+    'lines: loop {
+        if lines <= k {
+            break 'lines RunsAnswer::Follows;
+        }
+        let apart = run_line(sheet, header, k, &mut first, &mut second);
+        let mut i = 0u32;
+        'bits: while i < n {
+            if words::bit(apart, i) {
+                break 'lines RunsAnswer::Disagree(k, i);
+            }
+            i += 1;
+        }
+        k += 1;
+    }
+}
+
+// Makes line k's word in both runs. The answer has a 1 in each bit where the results' difference is not the stated one.
+fn run_line(sheet: &[u8], header: Header, k: usize, first: &mut Words, second: &mut Words) -> u64
+    requires { ⌜ Read (now sheet) header × (k < header .lines) × Holds (header .width) (header .inputs + k) (now first) × Holds (header .width) (header .inputs + k) (now second) ⌝ }
+    ensures { λ r. ⌜ (now (first .exit) ≡ withLine (trailOf (now (sheet .entry))) k (now (first .entry))) × (now (second .exit) ≡ withLine (trailOf (now (sheet .entry))) k (now (second .entry))) × (r ≡ bitXor (bitXor (wordOfLine (trailOf (now (sheet .entry))) k (now (first .entry))) (wordOfLine (trailOf (now (sheet .entry))) k (now (second .entry)))) (lineAt (trailOf (now (sheet .entry))) k .difference)) ⌝ }
+{
+    let line = line_at(sheet, header, k);
+    let word = header.inputs + k;
+    let x = make_word(header.width, line, word, first);
+    let y = make_word(header.width, line, word, second);
+    x ^ y ^ line.difference
+}
+
+// Makes a line's word in one run, from the words before it.
+fn make_word(n: u32, line: Line, word: usize, words: &mut Words) -> u64
+    requires { ⌜ (1 ≤ n) × (n ≤ 64) × (word < 256) × WellFormedLine n word line × Holds n word (now words) ⌝ }
+    ensures { λ r. ⌜ (r ≡ makes n line (getD (now (words .entry)) (line .first) 0) (getD (now (words .entry)) (line .second) 0)) × (now (words .exit) ≡ set (now (words .entry)) word r) ⌝ }
+{
+    let first = line.first;
+    let second = line.second;
+    let made = word_made(n, line, words[first], words[second]);
+    words[word] = made;
+    made
+}
