@@ -1,0 +1,5 @@
+pub mod KindRanges
+pub mod GateTables
+pub mod RunLiterals
+pub mod WrittenGates
+pub mod WrittenBits
