@@ -1,0 +1,36 @@
+-- Both counts are the joined list's own, and never pass document 01's limits.
+use mathlib.Core.Path.{_≡_, ap, _∙_}
+use lib.ListN.{length}
+use Rattle.words.specs.Below.{concat}
+use Rattle.trail.specs.Trail.{Trail, lineCount}
+use Rattle.cnf.specs.Formulas.{clausesOf, numbers}
+use Rattle.cnf.proofs.Clauses.{Nonzero, every-in-concat, numbers-concat, clauses-numbers}
+use Rattle.encoding.specs.Lists.{lineClauses, lineList, joined, clauseCount}
+use Rattle.encoding.proofs.BothRuns.{nonzero-line}
+use Rattle.words.proofs.Below.{length-concat}
+use Rattle.encoding.proofs.Limits.{variables-most, clauses-count-most, line-list-most}
+use Rattle.sheet.specs.Fields.{trailOf}
+use Rattle.sheet.specs.declared.Mode.the-variants.{Read}
+use Rattle.sheet.proofs.WellFormed.{accepted-well-formed, accepted-sized}
+use Rattle.clauses.specs.Demand3.{EverySheetCountsRight}
+use Rattle.clauses.proofs.Written.{joined-list}
+
+clauses-joined : (t : Trail) → length (clausesOf (joined t)) ≡ clauseCount t
+unfolding joined lineList clauseCount
+clauses-joined t =
+    ap (λ l. length (clausesOf l)) (numbers-concat (lineCount t) (lineClauses t))
+    ∙ ap length
+    (clauses-numbers (concat (lineCount t) (lineClauses t))
+    (every-in-concat Nonzero (lineCount t) (lineClauses t) (λ k _. nonzero-line t k)))
+    ∙ length-concat (lineCount t) (lineClauses t)
+
+pub every-sheet-counts-right : EverySheetCountsRight
+every-sheet-counts-right s accepts buffers long =
+    let good = accepted-well-formed Read s accepts in
+    let small = accepted-sized Read s accepts in
+    record {
+      clauses-written = ap (λ l. length (clausesOf l)) (joined-list s accepts buffers long) ∙ clauses-joined (trailOf s);
+      variables-most = variables-most small;
+      clauses-most = clauses-count-most good small;
+      numbers-most = line-list-most good small;
+    }

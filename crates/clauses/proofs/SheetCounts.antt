@@ -1,0 +1,110 @@
+-- The counts of an accepted sheet, line by line, and their limits.
+use Prim.Native.Nat.{ℕ, suc, _+_, _-_, _*_, _<_, _≤_}
+use native.Mathlib.Decide.{le-ind}
+use native.Mathlib.Nat.{mul-le-mul}
+use native.Mathlib.Numerals.{add-one}
+use native.Mathlib.Omega.{arith}
+use mathlib.Core.Path.{_≡_, refl, sym, ap, ap₂, _∙_}
+use mathlib.Core.Bool.{Bool}
+use mathlib.Core.List.{List}
+use lib.ListN.{length}
+use Rattle.words.specs.Words.{value}
+use Rattle.words.specs.Below.{count, total}
+use Rattle.words.proofs.Below.{count-le}
+use Rattle.trail.specs.declared.Line.{Line}
+use Rattle.trail.specs.Kinds.{kindOf}
+use Rattle.trail.specs.Trail.{Trail, inputCount, lineCount, lineAt}
+use Rattle.encoding.specs.Variables.{adds, variablesBefore, variables}
+use Rattle.encoding.specs.Lists.{lineClauses, clauseCount}
+use Rattle.encoding.specs.Sizes.{clausesAs, numbersAs}
+use Rattle.encoding.proofs.Lengths.{line-clauses-length}
+use Rattle.encoding.proofs.Limits.{clauses-count-most}
+use Rattle.sheet.specs.declared.Header.{Header}
+use Rattle.sheet.specs.declared.Mode.the-variants.{Read as reading}
+use Rattle.sheet.specs.Fields.{trailOf}
+use Rattle.sheet.specs.Facts.{Read}
+use Rattle.sheet.proofs.WellFormed.{accepted-sized, read-width, read-inputs, read-lines, read-limited, read-well-formed}
+use Rattle.clauses.specs.declared.Counts.{Counts}
+use Rattle.clauses.specs.Answers.{countsOf}
+
+-- ---- one more
+
+pub count-start : (p : ℕ → Bool) → 0 ≡ count 0 p
+unfolding count
+count-start p = refl
+
+pub count-more : (p : ℕ → Bool) (i : ℕ) (b : Bool) {found after : ℕ} → found ≡ count i p → p i ≡ b → after ≡ found + value b
+    → after ≡ count (i + 1) p
+unfolding count
+count-more p i b e d a = rw add-one (cc)
+
+pub total-start : (f : ℕ → ℕ) → 0 ≡ total 0 f
+unfolding total
+total-start f = refl
+
+pub total-more : (f : ℕ → ℕ) (i : ℕ) {sum value : ℕ} → sum ≡ total i f → value ≡ f i → sum + value ≡ total (i + 1) f
+unfolding total
+total-more f i e d = rw add-one (cc)
+
+pub total-upto : (f : ℕ → ℕ) (i n : ℕ) → i ≤ n → total i f ≤ total n f
+unfolding total
+total-upto f i n h = le-ind (λ m. total i f ≤ total m f) (omega arith) (λ m _ l. omega arith) n h
+
+-- ---- of a sheet that was read
+
+module _ (s : List ℕ) (h : Header) (read : Read s h) where
+  -- the variables before line k: 32 * 256 of words at most, and 62 of carries for each line
+  pub variables-are : (k found : ℕ) → found ≡ count k (adds (trailOf s))
+      → h .width * (h .inputs + h .lines) + 2 * (h .width - 1) * found ≡ variablesBefore (trailOf s) k
+  unfolding variablesBefore
+  variables-are k found e =
+      let width = sym (read-width s h read) in
+      ap₂ _+_ (ap₂ _*_ width (ap₂ _+_ (sym (read-inputs s h read)) (sym (read-lines s h read)))) (ap₂ (λ (n c : ℕ). 2 * (n - 1) * c) width e)
+
+  pub word-variables-most : h .width * (h .inputs + h .lines) ≤ 8192
+  word-variables-most =
+      let limits = read-limited s h read in
+      let both : h .inputs + h .lines ≤ 256 = omega (arith, limits .inputs-most, limits .lines-most) in
+      omega (arith, mul-le-mul (limits .width-most) both)
+
+  pub carry-variables-most : (k found : ℕ) → found ≡ count k (adds (trailOf s)) → 2 * (h .width - 1) * found ≤ 62 * k
+  carry-variables-most k found e =
+      let narrow : 2 * (h .width - 1) ≤ 62 = omega (arith, read-limited s h read .width-most) in
+      let few : found ≤ k = omega (arith, count-le k (adds (trailOf s))) in
+      mul-le-mul narrow few
+
+  pub before-most : (k : ℕ) → variablesBefore (trailOf s) k ≤ 8192 + 62 * k
+  before-most k =
+      rw (← variables-are k (count k (adds (trailOf s))) refl)
+      (omega (arith, word-variables-most, carry-variables-most k (count k (adds (trailOf s))) refl))
+
+  -- a line's clauses, as the code measures them
+  pub clauses-are : (k : ℕ) {l : Line} {r : ℕ} → k < h .lines → l ≡ lineAt (trailOf s) k → r ≡ clausesAs (kindOf (l .kind)) (h .width)
+      → r ≡ length (lineClauses (trailOf s) k)
+  clauses-are k {l} {r} less e d =
+      d
+      ∙ ap (λ (z : Line). clausesAs (kindOf (z .kind)) (h .width)) e
+      ∙ ap (clausesAs (kindOf (lineAt (trailOf s) k .kind))) (sym (read-width s h read))
+      ∙ sym (line-clauses-length (read-well-formed s h read) k (omega (arith, read-lines s h read)))
+
+  pub clauses-upto : (k : ℕ) → k ≤ h .lines → total k (λ i. length (lineClauses (trailOf s) i)) ≤ 246016
+  unfolding clauseCount
+  clauses-upto k l =
+      omega (
+        arith,
+        total-upto (λ i. length (lineClauses (trailOf s) i)) k (lineCount (trailOf s)) (omega (arith, read-lines s h read)),
+        clauses-count-most (read-well-formed s h read) (accepted-sized reading s (read .accepted)),
+      )
+
+  pub clauses-all : (k : ℕ) {sum : ℕ} → k ≡ h .lines → sum ≡ total k (λ i. length (lineClauses (trailOf s) i))
+      → sum ≡ clauseCount (trailOf s)
+  unfolding clauseCount
+  clauses-all k e d = d ∙ ap (λ (n : ℕ). total n (λ i. length (lineClauses (trailOf s) i))) (e ∙ sym (read-lines s h read))
+
+  -- both counts
+  pub counts-are : {v c : ℕ} → v ≡ variablesBefore (trailOf s) (h .lines) → c ≡ clauseCount (trailOf s)
+      → _≡_ {A = Counts} (record { variables = v; clauses = c }) (countsOf (trailOf s))
+  unfolding variables
+  counts-are e d =
+      let all = e ∙ ap (variablesBefore (trailOf s)) (sym (read-lines s h read)) in
+      λ i. record { variables = all i; clauses = d i }

@@ -1,0 +1,58 @@
+// The counts of a sheet: its variables, and the clauses of all lines.
+ghost use mathlib.Core.Path.{_≡_};
+ghost use Prim.Native.Nat.{_≤_};
+ghost use Rattle.words.specs.Below.{count};
+ghost use Rattle.trail.specs.Trail.{lineCount};
+ghost use Rattle.encoding.specs.Variables.{adds, variablesBefore};
+ghost use Rattle.encoding.specs.Lists.{clauseCount};
+ghost use Rattle.sheet.specs.Fields.{trailOf};
+ghost use Rattle.sheet.specs.Facts.{Read};
+use crate::sizes::clauses_in_list;
+use fields::lines::line_at;
+use sheet::Header;
+
+// The variables of the words and of the carries of the addition lines before line k.
+pub(crate) fn variables_before(sheet: &[u8], header: Header, k: usize) -> u32
+    requires { ⌜ Read (now sheet) header × (k ≤ header .lines) ⌝ }
+    ensures { λ r. ⌜ r ≡ variablesBefore (trailOf (now (sheet .entry))) k ⌝ }
+{
+    let n = header.width;
+    let words = (header.inputs + header.lines) as u32;
+    n * words + 2 * (n - 1) * additions_before(sheet, header, k)
+}
+
+// How many of the lines before line k are additions.
+fn additions_before(sheet: &[u8], header: Header, k: usize) -> u32
+    requires { ⌜ Read (now sheet) header × (k ≤ header .lines) ⌝ }
+    ensures { λ r. ⌜ r ≡ count k (adds (trailOf (now (sheet .entry)))) ⌝ }
+{
+    let mut found = 0u32;
+    let mut i = 0;
+    while i < k {
+        let line = line_at(sheet, header, i);
+        match line.kind {
+            5..=6 => {
+                found += 1;
+            }
+            _ => {}
+        }
+        i += 1;
+    }
+    found
+}
+
+// The clauses of all lines.
+pub(crate) fn clauses_of_lines(sheet: &[u8], header: Header) -> u32
+    requires { ⌜ Read (now sheet) header ⌝ }
+    ensures { λ r. ⌜ r ≡ clauseCount (trailOf (now (sheet .entry))) ⌝ }
+{
+    let lines = header.lines;
+    let mut sum = 0u32;
+    let mut k = 0;
+    while k < lines {
+        let line = line_at(sheet, header, k);
+        sum += clauses_in_list(line.kind, header.width);
+        k += 1;
+    }
+    sum
+}

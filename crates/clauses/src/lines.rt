@@ -1,0 +1,65 @@
+// A line's list: the first run's clauses, then the second run's.
+ghost use mathlib.Core.Path.{_≡_};
+ghost use Prim.Native.Nat.{_+_, _<_, _≤_};
+ghost use lib.ListN.{length};
+ghost use Rattle.buffers.specs.Overwrite.{overwrite};
+ghost use Rattle.cnf.specs.Formulas.{numbers};
+ghost use Rattle.encoding.specs.Lists.{clausesIn, lineList};
+ghost use Rattle.encoding.specs.Variables.Run.{firstRun, secondRun};
+ghost use Rattle.sheet.specs.Fields.{trailOf};
+ghost use Rattle.sheet.specs.Facts.{Read};
+ghost use Rattle.run_clauses.specs.Writing.{ProperRun, clausesOfRun};
+use crate::counting::variables_before;
+use fields::lines::difference_at;
+use fields::lines::line_at;
+use run_clauses::LineRun;
+use run_clauses::put_run;
+use sheet::Header;
+
+// Writes the list of line k from the buffer's start.
+pub(crate) fn put_line(sheet: &[u8], header: Header, k: usize, out: &mut [i32])
+    requires { ⌜ Read (now sheet) header × (k < header .lines) × (length (lineList (trailOf (now sheet)) k) ≤ length (now out)) ⌝ }
+    ensures { λ _. ⌜ now (out .exit) ≡ overwrite 0 (lineList (trailOf (now (sheet .entry))) k) (now (out .entry)) ⌝ }
+{
+    let after = put_run(out, 0, first_run(sheet, header, k));
+    put_run(out, after, second_run(sheet, header, k));
+}
+
+// The first run of line k: no literal is negated.
+fn first_run(sheet: &[u8], header: Header, k: usize) -> LineRun
+    requires { ⌜ Read (now sheet) header × (k < header .lines) ⌝ }
+    ensures { λ r. ⌜ ProperRun r × (clausesOfRun r ≡ clausesIn (trailOf (now (sheet .entry))) firstRun k) ⌝ }
+{
+    LineRun {
+        width: header.width,
+        word: header.inputs + k,
+        line: line_at(sheet, header, k),
+        first: 0,
+        second: 0,
+        made: 0,
+        carries: variables_before(sheet, header, k),
+    }
+}
+
+// The second run: the ones of a word's difference negate its literals, and its carries are its own.
+fn second_run(sheet: &[u8], header: Header, k: usize) -> LineRun
+    requires { ⌜ Read (now sheet) header × (k < header .lines) ⌝ }
+    ensures { λ r. ⌜ ProperRun r × (clausesOfRun r ≡ clausesIn (trailOf (now (sheet .entry))) secondRun k) ⌝ }
+{
+    let line = line_at(sheet, header, k);
+    let first = difference_at(sheet, header, line.first);
+    let second = difference_at(sheet, header, line.second);
+    let made = line.difference;
+    let width = header.width;
+    let word = header.inputs + k;
+    let carries = variables_before(sheet, header, k) + (width - 1);
+    LineRun {
+        width,
+        word,
+        line,
+        first,
+        second,
+        made,
+        carries,
+    }
+}
