@@ -4,6 +4,7 @@ use crate::rows::Row;
 use crate::rows::row_of;
 use differential::LineReport;
 use std::num::wrapping_add_u64;
+use text::checksum::with_number;
 use text::print::put_number;
 
 // How many there were, how many impossible, how many not as the count says; the sums of their numbers, modulo 2^64; and a
@@ -59,11 +60,6 @@ fn with_numbers(checksum: u64, row: Row) -> u64 {
     let weight = with_number(number, row.weight);
     let chains = with_number(weight, row.chains);
     with_number(chains, row.fitting)
-}
-
-// 1,000,003 times the checksum, plus a number, modulo the prime 2^32 - 5.
-fn with_number(checksum: u64, number: u64) -> u64 {
-    (1000003 * (checksum % 4294967291) + number % 4294967291) % 4294967291
 }
 
 // The tally as text.

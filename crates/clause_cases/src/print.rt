@@ -1,0 +1,61 @@
+// Answers as text: each function takes the position to put it at and tells the position after it.
+use crate::signs::magnitude;
+use clauses::Counts;
+use clauses::ListAnswer;
+use runs::RunsAnswer;
+use sheet::Refusal;
+use text::print::put_number;
+use text::print::put_refused;
+use text::print::put_text;
+
+// A refusal of any call.
+pub fn put_refusal(out: &mut [u8], at: usize, refusal: Refusal) -> usize {
+    put_refused(out, at, refusal.number as u64, refusal.place as u64)
+}
+
+// Both counts of a sheet.
+pub fn put_counts(out: &mut [u8], at: usize, counts: Counts) -> usize {
+    let variables = put_number(out, at, b" variables ", counts.variables as u64);
+    put_number(out, variables, b", clauses ", counts.clauses as u64)
+}
+
+// The answer of `clauses::line_list`: ` written NUMBERS`, or a refusal.
+pub fn put_written(out: &mut [u8], at: usize, answer: ListAnswer) -> usize {
+    match answer {
+        ListAnswer::Written(numbers) => put_number(out, at, b" written ", numbers as u64),
+        ListAnswer::Refused(refusal) => put_refusal(out, at, refusal),
+    }
+}
+
+// The answer of `runs::two_runs`: ` follows`, ` disagree LINE BIT`, or a refusal.
+pub fn put_runs(out: &mut [u8], at: usize, answer: RunsAnswer) -> usize {
+    match answer {
+        RunsAnswer::Follows => put_text(out, at, b" follows"),
+        RunsAnswer::Disagree(line, bit) => put_disagree(out, at, line as u64, bit as u64),
+        RunsAnswer::Refused(refusal) => put_refusal(out, at, refusal),
+    }
+}
+
+// Where two runs disagree.
+fn put_disagree(out: &mut [u8], at: usize, line: u64, bit: u64) -> usize {
+    let named = put_number(out, at, b" disagree ", line);
+    put_number(out, named, b" ", bit)
+}
+
+// The numbers of a list.
+pub fn put_numbers(out: &mut [u8], at: usize, numbers: &[i32]) -> usize {
+    let mut next = at;
+    for i in 0..numbers.len() {
+        next = put_signed(out, next, numbers[i]);
+    }
+    next
+}
+
+// One of them, after a space.
+fn put_signed(out: &mut [u8], at: usize, number: i32) -> usize {
+    let size = magnitude(number) as u64;
+    if number < 0 {
+        return put_number(out, at, b" -", size);
+    }
+    put_number(out, at, b" ", size)
+}
