@@ -5,6 +5,7 @@ ghost use lib.ListN.{length};
 ghost use Rattle.buffers.specs.Overwrite.{overwrite};
 ghost use Rattle.cnf.specs.Formulas.{numbers};
 ghost use Rattle.encoding.specs.Lists.{clausesIn, lineList};
+ghost use Rattle.encoding.specs.Variables.{variablesBefore};
 ghost use Rattle.encoding.specs.Variables.Run.{firstRun, secondRun};
 ghost use Rattle.sheet.specs.Fields.{trailOf};
 ghost use Rattle.sheet.specs.Facts.{Read};
@@ -21,13 +22,14 @@ pub(crate) fn put_line(sheet: &[u8], header: Header, k: usize, out: &mut [i32])
     requires { ⌜ Read (now sheet) header × (k < header .lines) × (length (lineList (trailOf (now sheet)) k) ≤ length (now out)) ⌝ }
     ensures { λ _. ⌜ now (out .exit) ≡ overwrite 0 (lineList (trailOf (now (sheet .entry))) k) (now (out .entry)) ⌝ }
 {
-    let after = put_run(out, 0, first_run(sheet, header, k));
-    put_run(out, after, second_run(sheet, header, k));
+    let before = variables_before(sheet, header, k);
+    let after = put_run(out, 0, first_run(sheet, header, k, before));
+    put_run(out, after, second_run(sheet, header, k, before));
 }
 
-// The first run of line k: no literal is negated.
-fn first_run(sheet: &[u8], header: Header, k: usize) -> LineRun
-    requires { ⌜ Read (now sheet) header × (k < header .lines) ⌝ }
+// The first run of line k, which has `before` variables before its carries: no literal is negated.
+fn first_run(sheet: &[u8], header: Header, k: usize, before: u32) -> LineRun
+    requires { ⌜ Read (now sheet) header × (k < header .lines) × (before ≡ variablesBefore (trailOf (now sheet)) k) ⌝ }
     ensures { λ r. ⌜ ProperRun r × (clausesOfRun r ≡ clausesIn (trailOf (now (sheet .entry))) firstRun k) ⌝ }
 {
     LineRun {
@@ -37,13 +39,13 @@ fn first_run(sheet: &[u8], header: Header, k: usize) -> LineRun
         first: 0,
         second: 0,
         made: 0,
-        carries: variables_before(sheet, header, k),
+        carries: before,
     }
 }
 
 // The second run: the ones of a word's difference negate its literals, and its carries are its own.
-fn second_run(sheet: &[u8], header: Header, k: usize) -> LineRun
-    requires { ⌜ Read (now sheet) header × (k < header .lines) ⌝ }
+fn second_run(sheet: &[u8], header: Header, k: usize, before: u32) -> LineRun
+    requires { ⌜ Read (now sheet) header × (k < header .lines) × (before ≡ variablesBefore (trailOf (now sheet)) k) ⌝ }
     ensures { λ r. ⌜ ProperRun r × (clausesOfRun r ≡ clausesIn (trailOf (now (sheet .entry))) secondRun k) ⌝ }
 {
     let line = line_at(sheet, header, k);
@@ -52,7 +54,7 @@ fn second_run(sheet: &[u8], header: Header, k: usize) -> LineRun
     let made = line.difference;
     let width = header.width;
     let word = header.inputs + k;
-    let carries = variables_before(sheet, header, k) + (width - 1);
+    let carries = before + (width - 1);
     LineRun {
         width,
         word,

@@ -1,8 +1,8 @@
 -- What the writer has written, literal by literal and row by row. Assumes nothing.
-use mathlib.Core.Path.{_≡_, refl, sym, ap, ap₂, _∙_, subst}
-use mathlib.Core.Bool.{Bool, true, false, cond, xor, Bool·beq}
+use mathlib.Core.Path.{_≡_, refl, sym, ap, _∙_, subst}
+use mathlib.Core.Bool.{cond}
 use mathlib.Core.List.{List, [], _∷_, _++_}
-use Prim.Native.Nat.{ℕ, zero, suc, _+_, _*_, _-_, _/_, _%_, _^_, _≤_, _<_}
+use Prim.Native.Nat.{ℕ, zero, suc, _+_, _*_, _-_, _%_, _^_, _≤_, _<_}
 use native.Mathlib.Decide.{decLt}
 use native.Mathlib.Nat.{one-mul, mod-eq-of-lt}
 use native.Mathlib.Numerals.{add-one}
@@ -16,7 +16,6 @@ use Rattle.words.specs.Below.{concat}
 use Rattle.buffers.proofs.Appending.{Wrote, Left, left-start, left-take, left-fits, left-done, wrote-none, wrote-set, wrote-append}
 use Rattle.cnf.specs.Formulas.{numbers}
 use Rattle.cnf.specs.Gates.{clauseOf}
-use Rattle.cnf.specs.Tables.{tableRow}
 use Rattle.cnf.proofs.Clauses.{numbers-append}
 use Rattle.cnf.proofs.Rows.{length-clause}
 
@@ -66,26 +65,6 @@ module _ (lits : List ℤ) (row : ℕ) where
         let room : at + i < length m = omega (arith, left-fits (pos 0 ∷ []) [] (clause-end i k) h) in
         left-done refl (left-take (clause-end i k) h (wrote-set (at + i) (pos 0) m room))
 
--- ---- a row, right or wrong, as the code tests it
-
-module _ (lits : List ℤ) (table row : ℕ) {a b : Bool} (have : a ≡ bit row 0) (want : b ≡ bit table (row / 2)) where
-  row-clauses : tableRow lits table row ≡ cond (Bool·beq a b) [] (clauseOf lits row ∷ [])
-  unfolding tableRow xor
-  row-clauses = ap₂ (λ (x y : Bool). cond (xor x y) (clauseOf lits row ∷ []) []) (sym have) (sym want) ∙ at a b
-    where
-      at : (x y : Bool) → cond (xor x y) (clauseOf lits row ∷ []) [] ≡ cond (Bool·beq x y) [] (clauseOf lits row ∷ [])
-      at true true = refl
-      at false false = refl
-      at true false = refl
-      at false true = refl
-
-  pub row-right : Bool·beq a b ≡ true → numbers (tableRow lits table row) ≡ []
-  unfolding numbers
-  row-right e = ap numbers (row-clauses ∙ ap (λ (t : Bool). cond t [] (clauseOf lits row ∷ [])) e)
-
-  pub row-wrong : Bool·beq a b ≡ false → tableRow lits table row ≡ clauseOf lits row ∷ []
-  row-wrong e = row-clauses ∙ ap (λ (t : Bool). cond t [] (clauseOf lits row ∷ [])) e
-
 -- ---- the rows, one after the other
 
 module _ (f : ℕ → List (List ℤ)) where
@@ -120,9 +99,9 @@ module _ (f : ℕ → List (List ℤ)) where
         subst (λ (ns : List ℤ). Wrote at ns l q k) (sym (numbers-next row) ∙ ap (λ (b : ℕ). numbers (concat b f)) (sym (add-one row)))
         (wrote-append (omega (arith, length-mono n row (omega arith))) w v)
 
--- `1 << k` for a k of at most 4
-pub rows-le : (k : ℕ) → k ≤ 4 → 2 ^ k ≤ 16
+-- `1 << k` for a k of at most 3
+pub rows-le : (k : ℕ) → k ≤ 3 → 2 ^ k ≤ 8
 rows-le k h = pow-mono h
 
-pub rows-are : (k : ℕ) → k ≤ 4 → (1 * 2 ^ k) % 2 ^ 32 ≡ 2 ^ k
+pub rows-are : (k : ℕ) → k ≤ 3 → (1 * 2 ^ k) % 2 ^ 32 ≡ 2 ^ k
 rows-are k h = ap (λ (x : ℕ). x % 2 ^ 32) (one-mul (2 ^ k)) ∙ mod-eq-of-lt (omega (arith, rows-le k h))

@@ -1,15 +1,16 @@
 // Clauses of gates, written into a lent buffer of numbers.
 ghost use mathlib.Core.Path.{_≡_};
-ghost use mathlib.Core.Bool.{cond};
+ghost use mathlib.Core.Bool.{cond, not};
 ghost use mathlib.Core.List.{[], _∷_};
-ghost use Prim.Native.Nat.{ℕ, _+_, _-_, _^_, _≤_, _<_};
+ghost use Prim.Native.Nat.{ℕ, _+_, _*_, _-_, _^_, _≤_, _<_};
 ghost use lib.ListN.{length};
 ghost use lib.IntN.{negℤ};
 ghost use lib.Signed.{mag};
+ghost use Rattle.words.specs.Words.{value, bit as Words·bit};
 ghost use Rattle.buffers.specs.Overwrite.{overwrite};
 ghost use Rattle.cnf.specs.Formulas.{numbers};
 ghost use Rattle.cnf.specs.Gates.{clauseOf};
-ghost use Rattle.cnf.specs.Tables.{tableRow, tableGate, Small};
+ghost use Rattle.cnf.specs.Tables.{tableGate, Small};
 use words::bit;
 
 // Writes the clauses that tie the last literal to the others by the table: bit t of the table is the output at the inputs' row t.
@@ -18,26 +19,26 @@ pub fn put_gate(out: &mut [i32], at: usize, lits: &[i32], table: u32) -> usize
     requires { ⌜ (1 ≤ length (now lits)) × (length (now lits) ≤ 4) × Small (now lits) × (at + length (numbers (tableGate (now lits) table)) ≤ length (now out)) ⌝ }
     ensures { λ r. ⌜ (r ≡ at + length (numbers (tableGate (now (lits .entry)) table))) × (now (out .exit) ≡ overwrite at (numbers (tableGate (now (lits .entry)) table)) (now (out .entry))) ⌝ }
 {
-    let rows = 1u32 << lits.len();
+    let rows = 1u32 << (lits.len() - 1);
     let mut next = at;
-    let mut row = 0u32;
-    while row < rows {
-        next = put_row(out, next, lits, table, row);
-        row += 1;
+    let mut inputs = 0u32;
+    while inputs < rows {
+        next = put_clause(out, next, lits, wrong_row(table, inputs));
+        inputs += 1;
     }
     next
 }
 
-// Writes a row's clause if the row's output is wrong, and nothing otherwise.
-fn put_row(out: &mut [i32], at: usize, lits: &[i32], table: u32, row: u32) -> usize
-    requires { ⌜ (length (now lits) ≤ 4) × Small (now lits) × (row < 16) × (at + length (numbers (tableRow (now lits) table row)) ≤ length (now out)) ⌝ }
-    ensures { λ r. ⌜ (r ≡ at + length (numbers (tableRow (now (lits .entry)) table row))) × (now (out .exit) ≡ overwrite at (numbers (tableRow (now (lits .entry)) table row)) (now (out .entry))) ⌝ }
+// Of the two rows that the inputs' row begins, the one whose output, its lowest bit, is not the table's: just one gives a clause, and
+// no row is tested.
+fn wrong_row(table: u32, inputs: u32) -> u32
+    requires { ⌜ inputs < 8 ⌝ }
+    ensures { λ r. ⌜ r ≡ 2 * inputs + value (not (Words·bit table inputs)) ⌝ }
 {
-    let output = bit(row as u64, 0);
-    if output == bit(table as u64, row / 2) {
-        at
+    if bit(table as u64, inputs) {
+        2 * inputs
     } else {
-        put_clause(out, at, lits, row)
+        2 * inputs + 1
     }
 }
 

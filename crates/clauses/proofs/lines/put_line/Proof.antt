@@ -5,12 +5,15 @@ use Rattle.clauses.proofs.ListParts.{room-first, room-second, list-writ
 use Rattle.clauses.proofs.lines.put_line.Statement.{statement}
 use Rattle.clauses.proofs.lines.put_line.Tie as tie
 
+variables-before-requires : tie.Need-variables-before-requires
+variables-before-requires c κs = search needs
+
 first-run-requires : tie.Need-first-run-requires
 first-run-requires c κs = search needs
 
 put-run-requires : tie.Need-put-run-requires
 put-run-requires c κs =
-    let start = c .before .before .before in
+    let start = c .before .before .before .before in
     let t = trailOf (start .args .sheet .now) in
     (c .first-run .ensures .0, room-first t (start .args .k) (start .args .out .now) (start .pre .2) (c .first-run .ensures .1) refl)
 
@@ -19,7 +22,7 @@ second-run-requires c κs = search needs
 
 put-run-requires-2 : tie.Need-put-run-requires-2
 put-run-requires-2 c κs =
-    let start = c .before .before .before .before .before .before .before in
+    let start = c .before .before .before .before .before .before .before .before in
     let t = trailOf (start .args .sheet .now) in
     let first = c .before .before .before .before .first-run .ensures in
     let wrote = c .before .before .before .put-run .ensures in (
@@ -32,7 +35,7 @@ same-length c = search needs
 
 returns : tie.Need-returns
 returns c =
-    let start = c .before .before .before .before .before .before .before .before .before in
+    let start = c .before .before .before .before .before .before .before .before .before .before in
     let t = trailOf (start .args .sheet .now) in
     let first = c .before .before .before .before .before .before .first-run .ensures in
     let wrote = c .before .before .before .before .before .put-run .ensures in
@@ -44,6 +47,7 @@ pub put-line-spec : {M : Type 1} → statement M
 put-line-spec =
     tie.close
     (tie.spec
+    variables-before-requires
     first-run-requires
     put-run-requires
     second-run-requires

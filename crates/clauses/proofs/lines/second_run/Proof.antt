@@ -28,26 +28,23 @@ add-word c =
     let limits = read-limited _ _ (start .pre .0) in
     omega (arith, limits .inputs-most, limits .lines-most)
 
-variables-before-requires : tie.Need-variables-before-requires
-variables-before-requires c κs = search needs
-
 sub-carries : tie.Need-sub-carries
 sub-carries c =
-    let start = c .before .before .before .before .before .before in
+    let start = c .before .before .before .before .before in
     let limits = read-limited _ _ (start .pre .0) in
     omega (arith, limits .width-least)
 
 add-carries : tie.Need-add-carries
 add-carries c =
-    let start = c .before .before .before .before .before .before in
+    let start = c .before .before .before .before .before in
     let limits = read-limited _ _ (start .pre .0) in
-    omega (arith, limits .width-most, limits .lines-most, c .variables-before .ensures, before-most (start .args .sheet .now) (start .args .header) (start .pre .0) (start .args .k))
+    omega (arith, limits .width-most, limits .lines-most, start .pre .2, before-most (start .args .sheet .now) (start .args .header) (start .pre .0) (start .args .k))
 
 returns : tie.Need-returns
 returns c =
-    let start = c .before .before .before .before .before .before in
+    let start = c .before .before .before .before .before in
     let a = start .args in
-    second-run-is (a .sheet .now) (a .header) (start .pre .0) (a .k) (start .pre .1) (c .before .before .before .before .line-at .result) (c .variables-before .result) (c .before .before .before .before .line-at .ensures) (c .variables-before .ensures) (c .before .before .before .difference-at .result) (c .before .before .difference-at2 .result) (c .before .before .before .difference-at .ensures) (c .before .before .difference-at2 .ensures)
+    second-run-is (a .sheet .now) (a .header) (start .pre .0) (a .k) (start .pre .1) (c .before .before .before .line-at .result) (a .before) (c .before .before .before .line-at .ensures) (start .pre .2) (c .before .before .difference-at .result) (c .before .difference-at2 .result) (c .before .before .difference-at .ensures) (c .before .difference-at2 .ensures)
 
 pub second-run-spec : {M : Type 1} → statement M
 second-run-spec =
@@ -57,7 +54,6 @@ second-run-spec =
     difference-at-requires
     difference-at-requires-2
     add-word
-    variables-before-requires
     sub-carries
     add-carries
     returns)
