@@ -63,7 +63,7 @@ fn put_reports(sheet: &[u8], header: Header, out: &mut [u8])
 }
 
 // Writes one report from a position on.
-fn put_report(out: &mut [u8], at: usize, report: LineReport)
+pub fn put_report(out: &mut [u8], at: usize, report: LineReport)
     requires { ⌜ (at + 16 ≤ length (now out)) × SmallReport (reportMeans report) ⌝ }
     ensures { λ _. ⌜ now (out .exit) ≡ overwrite at (reportBytes (reportMeans report)) (now (out .entry)) ⌝ }
 {

@@ -1,0 +1,183 @@
+/*
+ * Tablegull: a checker of differential trails through additions, rotations
+ * and XORs.
+ *
+ * A sheet is 1,024 to 4,608 bytes: a program of at most 248 lines together
+ * with the XOR difference expected of every word.  The calls below read a
+ * sheet, seal one, say of each line whether its differential can happen and
+ * what it costs, run the program on two starting values, and write the trail
+ * as clauses for a SAT solver.
+ *
+ * No call keeps anything between calls, or holds on to a pointer after it
+ * returns.
+ *
+ *
+ * Answers
+ *
+ * Every call returns a struct tablegull_answer.
+ *
+ *   Success: number and place are 0, and count is what the call says below.
+ *            What is written is written from the start of the lent buffer;
+ *            whatever lies past it in the buffer stays as it was.
+ *   Refusal: number and place say which question had the answer no, count is
+ *            0, and no byte of any lent buffer has changed.
+ *
+ *
+ * Refusals
+ *
+ * The questions are asked in the order of their numbers, 9 to 15 together for
+ * one line after the other, and the first whose answer is no is the refusal.
+ * Questions 1 to 16 are asked by every call (tablegull_seal leaves out 2);
+ * 17 to 19 by the calls that take what they are about.  Blocks and lines are
+ * numbered from 0, block 0 being the header.
+ *
+ *   number  place  the question whose answer is no
+ *   ------  -----  ------------------------------------------------------------
+ *        1      0  Is the length a multiple of 512 from 1,024 to 4,608?
+ *        2  block  Is each block's check right?
+ *        3      0  Are the four mark bytes there?
+ *        4      0  Is the width n from 2 to 32?
+ *        5      0  Is the input count m from 1 to 8?
+ *        6      0  Is the line count L from 1 to 248, with just as many line
+ *                  blocks as L needs at 31 each?
+ *        7      0  Are the first m input differences below 2^n, the others 0?
+ *        8      0  Are the header's remaining bytes before its check zero?
+ *        9   line  Is the kind 1 to 6?
+ *       10   line  Is each used operand an earlier word?
+ *       11   line  For kind 5, do the operands name different words?
+ *       12   line  For kinds 3 and 4, is the amount 1 to n-1?
+ *       13   line  For kinds 2 and 6, is the constant below 2^n?
+ *       14   line  Is the difference below 2^n?
+ *       15   line  Are the record's zero field and unused fields zero?
+ *       16  block  Are records past L and the 12 bytes zero in every line block?
+ *       17      0  Is the line number below L?
+ *       18      0  Is the output buffer long enough for this very answer?
+ *       19      0  Are there exactly m starting words, each below 2^n?
+ *
+ *
+ * Outside the proof
+ *
+ * The calls are proved for the memory that their arguments describe.  C cannot
+ * tell a call whether its arguments describe memory truly, so these three are
+ * for the caller to see to, and nothing is promised where they fail:
+ *
+ *   - Buffers lent to one call must not overlap where one of them is written.
+ *   - A null pointer may be lent only with length 0.
+ *   - A buffer must be at least as long as its length says, and aligned for
+ *     its type as C asks.  Lengths count elements: bytes for uint8_t, 64-bit
+ *     words for uint64_t, 32-bit numbers for int32_t.
+ */
+
+#ifndef TABLEGULL_H
+#define TABLEGULL_H
+
+#include <stddef.h>
+#include <stdint.h>
+
+#ifdef __cplusplus
+extern "C" {
+#endif
+
+/* Lengths that are always enough. */
+#define TABLEGULL_MAX_SHEET 4608       /* bytes of a sheet                     */
+#define TABLEGULL_MAX_LINES 248        /* lines of a sheet                     */
+#define TABLEGULL_LINE_REPORT 16       /* bytes of tablegull_line_report       */
+#define TABLEGULL_MAX_REPORT 3968      /* bytes of tablegull_report            */
+#define TABLEGULL_MAX_LINE_CLAUSES 4944 /* numbers of tablegull_line_clauses   */
+
+struct tablegull_answer {
+    uint32_t number; /* 0, or the number of the refusal                       */
+    uint32_t place;  /* 0, or the block or line that the refusal names        */
+    uint64_t count;  /* 0 if refused, else what the call says                 */
+};
+
+/*
+ * Reads a sheet: asks questions 1 to 16.
+ * count: the number of lines, L.
+ */
+struct tablegull_answer tablegull_read(const uint8_t *sheet, size_t len);
+
+/*
+ * Seals a sheet: asks questions 1 and 3 to 16, then writes every block's check
+ * into its bytes 508 to 511.  No other byte changes, and tablegull_read
+ * accepts the sheet afterwards.
+ * count: the number of blocks, the header among them.
+ */
+struct tablegull_answer tablegull_seal(uint8_t *sheet, size_t len);
+
+/*
+ * Writes the report of one line as 16 bytes, numbers little-endian:
+ *
+ *   byte 0        0 impossible, 1 certain, 2 halves, 3 counted
+ *   byte 1        0
+ *   bytes 2, 3    chains
+ *   bytes 4 to 7  weight in sixteenths of a bit
+ *   bytes 8 to 15 N, the number of fitting words
+ *
+ * What does not apply is 0.
+ * Asks 1 to 16, then 17 (line), then 18 (out_len of 16 or more).
+ * count: 16.
+ */
+struct tablegull_answer tablegull_line_report(const uint8_t *sheet, size_t len,
+                                              uint64_t line, uint8_t *out,
+                                              size_t out_len);
+
+/*
+ * Writes the reports of all lines, 16 bytes each as above, in order.
+ * Asks 1 to 16, then 18 (out_len of 16 L or more).
+ * count: the bytes written, 16 L.
+ */
+struct tablegull_answer tablegull_report(const uint8_t *sheet, size_t len,
+                                         uint8_t *out, size_t out_len);
+
+/*
+ * Writes the sheet's totals as three words: the number of impossible lines,
+ * the sum of the other lines' weights in sixteenths of a bit, and the number
+ * of their chains.
+ * Asks 1 to 16, then 18 (out_len of 3 or more).
+ * count: 3.
+ */
+struct tablegull_answer tablegull_totals(const uint8_t *sheet, size_t len,
+                                         uint64_t *out, size_t out_len);
+
+/*
+ * Runs the program on the starting words and on the starting words XOR the
+ * input differences, and compares every line's two results with its stated
+ * difference.  Writes three words: 1, 0, 0 if they follow the trail; else 0,
+ * the first line whose results differ otherwise than stated, and the lowest
+ * bit of it where they do.
+ * Asks 1 to 16, then 18 (out_len of 3 or more), then 19 (start).
+ * count: 3.
+ */
+struct tablegull_answer tablegull_two_runs(const uint8_t *sheet, size_t len,
+                                           const uint64_t *start,
+                                           size_t start_len, uint64_t *out,
+                                           size_t out_len);
+
+/*
+ * Writes two words, the counts for the header of a DIMACS file: the number of
+ * variables and the number of clauses of all lines.
+ * Asks 1 to 16, then 18 (out_len of 2 or more).
+ * count: 2.
+ */
+struct tablegull_answer tablegull_clause_counts(const uint8_t *sheet,
+                                                size_t len, uint64_t *out,
+                                                size_t out_len);
+
+/*
+ * Writes one line's clauses as signed numbers, each clause followed by 0.
+ * The lists of lines 0 to L-1, one after the other, are the clauses of the
+ * sheet.
+ * Asks 1 to 16, then 17 (line), then 18 (out_len of this list's length or
+ * more; TABLEGULL_MAX_LINE_CLAUSES is enough for any).
+ * count: the numbers written, the zeros among them.
+ */
+struct tablegull_answer tablegull_line_clauses(const uint8_t *sheet, size_t len,
+                                               uint64_t line, int32_t *out,
+                                               size_t out_len);
+
+#ifdef __cplusplus
+}
+#endif
+
+#endif /* TABLEGULL_H */
