@@ -3,10 +3,10 @@ ghost use Prim.Native.Nat.{_≤_};
 use crate::print::put_numbers;
 use crate::print::put_written;
 use crate::sheets::SHEET_BYTES;
-use crate::sheets::take_sheet;
 use clauses::ListAnswer;
 use clauses::line_list;
 use text::parse::number;
+use text::parse::take_sheet;
 use text::print::put_number;
 use text::print::put_text;
 

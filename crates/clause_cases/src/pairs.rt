@@ -5,10 +5,10 @@ use crate::print::put_counts;
 use crate::print::put_refusal;
 use crate::satisfying::count_satisfying;
 use crate::sheets::SHEET_BYTES;
-use crate::sheets::take_sheet;
 use clauses::CountsAnswer;
 use clauses::clause_counts;
 use sheet::Reading;
+use text::parse::take_sheet;
 use text::print::put_number;
 use text::print::put_text;
 

@@ -1,5 +1,4 @@
 // Answers as text: each function takes the position to put it at and tells the position after it.
-use crate::signs::magnitude;
 use clauses::Counts;
 use clauses::ListAnswer;
 use runs::RunsAnswer;
@@ -7,6 +6,7 @@ use sheet::Refusal;
 use text::print::put_number;
 use text::print::put_refused;
 use text::print::put_text;
+use text::signs::magnitude;
 
 // A refusal of any call.
 pub fn put_refusal(out: &mut [u8], at: usize, refusal: Refusal) -> usize {

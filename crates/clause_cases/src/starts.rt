@@ -1,9 +1,9 @@
 // Two runs from given words.
 use crate::print::put_runs;
 use crate::sheets::SHEET_BYTES;
-use crate::sheets::take_sheet;
 use runs::two_runs;
 use text::parse::number;
+use text::parse::take_sheet;
 use text::print::put_text;
 
 // More words than any sheet has inputs.

@@ -2,7 +2,6 @@
 use crate::print::put_counts;
 use crate::print::put_refusal;
 use crate::sheets::SHEET_BYTES;
-use crate::sheets::take_sheet;
 use crate::signs::folded;
 use clauses::CountsAnswer;
 use clauses::ListAnswer;
@@ -10,6 +9,7 @@ use clauses::clause_counts;
 use clauses::line_list;
 use std::num::wrapping_add_u64;
 use text::checksum::with_number;
+use text::parse::take_sheet;
 use text::print::put_number;
 
 // The lines of the longest sheet, and the numbers of the longest list.

@@ -68,3 +68,16 @@ fn set_byte(sheet: &mut [u8], offset: usize, value: usize) {
         }
     }
 }
+
+// Fills a sheet with the bytes that a line lists, whose length stands at `from`, and tells the length. A longer one is cut off.
+pub fn take_sheet(sheet: &mut [u8], line: &[u8], from: usize) -> usize
+    ensures { λ r. ⌜ r ≤ length (now (sheet .entry)) ⌝ }
+{
+    let size = number(line, from);
+    let length = size.value;
+    fill(sheet, line, size.next);
+    if sheet.len() < length {
+        return sheet.len();
+    }
+    length
+}

@@ -8,9 +8,9 @@ use lib.Signed.{nonNeg}
 use mir.Syntax.{w32}
 use mir.Val.{Fits}
 use borrow.Author.Needs.{needs}
-use Rattle.clause_cases.proofs.Magnitudes.{turns, is-size}
-use Rattle.clause_cases.proofs.signs.magnitude.Statement.{statement}
-use Rattle.clause_cases.proofs.signs.magnitude.Tie as tie
+use Rattle.text.proofs.Magnitudes.{turns, is-size}
+use Rattle.text.proofs.signs.magnitude.Statement.{statement}
+use Rattle.text.proofs.signs.magnitude.Tie as tie
 
 add-result : tie.Need-add-result
 add-result c = turns (c .before .args .number) (c .before .fits .number) (c .if1 .taken) .sum-fits

@@ -1,0 +1,16 @@
+// A refusal as the programs print it.
+ghost use Prim.Native.Nat.{_≤_};
+use sheet::Refusal;
+use text::output::OUTPUT_BYTES;
+use text::output::put_byte;
+use text::output::put_number;
+
+// `refused NUMBER PLACE`, and the line's end.
+pub(crate) fn put_refusal(out: &mut [u8; OUTPUT_BYTES], at: usize, refusal: Refusal) -> usize
+    requires { ⌜ at ≤ 8192 ⌝ }
+    ensures { λ r. ⌜ r ≤ 8192 ⌝ }
+{
+    let numbered = put_number(out, at, b"refused ", refusal.number as u64);
+    let placed = put_number(out, numbered, b" ", refusal.place as u64);
+    put_byte(out, placed, b'\n')
+}
