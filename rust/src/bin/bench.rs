@@ -1,0 +1,320 @@
+//! Times the archive beside the reference: `cargo run --release --bin bench`.
+//!
+//! Both get the same input in the same run. The rounds are interleaved, and
+//! every other round takes the two in the other order, so that a machine that
+//! is busy for a while slows both.
+//!
+//! Printed are the medians over the rounds of the archive's time and of the
+//! reference's; the median of the one divided by the other in the same round;
+//! and the archive's fastest round divided by the reference's fastest, which a
+//! busy machine disturbs least.
+
+use std::fs::{File, OpenOptions};
+use std::hint::black_box;
+use std::time::{Duration, Instant};
+
+use tablegull::builder::{Line, SheetBuilder};
+use tablegull::reference::{self, Sheet};
+use tablegull::text::TextWriter;
+use tablegull::{Refusal, LINE_REPORT, MAX_LINES, MAX_LINE_CLAUSES};
+
+/// Rounds of what takes microseconds. What takes milliseconds has one round in
+/// so many of these.
+const ROUNDS: usize = 240;
+const ROUNDS_TO_A_LONG_ONE: usize = 4;
+
+/// Short, so that the two of one round meet the machine in the same mood.
+const TIME_OF_ONE_MEASURE: Duration = Duration::from_micros(400);
+
+fn main() {
+    let mixed = sheet_of(&[1, 2, 3, 4, 5, 6]);
+    let additions = sheet_of(&[5]);
+    let constants = sheet_of(&[6]);
+    let mut cases = [
+        Case::new("read, all kinds mixed", read(&mixed)),
+        Case::new("report, all kinds mixed", report(&mixed)),
+        Case::new("report, kind 6 only", report(&constants)),
+        Case::new("one list, kind 5", list(&additions)),
+        Case::new("one list, kind 6", list(&constants)),
+    ];
+    let mut long_cases = [
+        Case::new("clause text by calls, mixed", text_by_calls(&mixed)),
+        Case::new("clause text by calls, kind 5", text_by_calls(&additions)),
+        Case::of_reference("the same, sheet read once", text_of_one_reading(&additions)),
+    ];
+    for round in 0..ROUNDS {
+        for case in &mut cases {
+            case.measure(round);
+        }
+        if round.is_multiple_of(ROUNDS_TO_A_LONG_ONE) {
+            for case in &mut long_cases {
+                case.measure(round / ROUNDS_TO_A_LONG_ONE);
+            }
+        }
+    }
+    println!("n = 32, m = 8, L = {MAX_LINES}; times of one call");
+    let long_rounds = ROUNDS / ROUNDS_TO_A_LONG_ONE;
+    println!("{ROUNDS} rounds, of the clause texts {long_rounds}");
+    if ARCHIVE.is_none() {
+        println!("libtablegull.a was not found: THE REFERENCE IS TIMED ALONE");
+    }
+    print_row("", "archive", "reference", "ratio", "fastest");
+    for case in cases.iter().chain(&long_cases) {
+        case.print();
+    }
+}
+
+type Outcome = Result<usize, Refusal>;
+
+/// The calls that are timed, the archive's or the reference's.
+#[derive(Clone, Copy)]
+struct Calls {
+    read: fn(&[u8]) -> Outcome,
+    report: fn(&[u8], &mut [u8]) -> Outcome,
+    line_clauses: fn(&[u8], usize, &mut [i32]) -> Outcome,
+}
+
+const REFERENCE: Calls = Calls {
+    read: reference::read,
+    report: reference::report,
+    line_clauses: reference::line_clauses,
+};
+
+#[cfg(has_archive)]
+const ARCHIVE: Option<Calls> = Some(Calls {
+    read: tablegull::read,
+    report: tablegull::report,
+    line_clauses: tablegull::line_clauses,
+});
+
+#[cfg(not(has_archive))]
+const ARCHIVE: Option<Calls> = None;
+
+fn read(sheet: &[u8]) -> impl FnMut(Calls) + '_ {
+    move |calls| {
+        black_box((calls.read)(black_box(sheet))).expect("accepted");
+    }
+}
+
+fn report(sheet: &[u8]) -> impl FnMut(Calls) + '_ {
+    let mut out = [0; LINE_REPORT * MAX_LINES];
+    move |calls| {
+        (calls.report)(black_box(sheet), &mut out).expect("accepted");
+        black_box(&out);
+    }
+}
+
+/// The list of the last line, which has the most lines before it.
+fn list(sheet: &[u8]) -> impl FnMut(Calls) + '_ {
+    let mut out = [0; MAX_LINE_CLAUSES];
+    move |calls| {
+        (calls.line_clauses)(black_box(sheet), MAX_LINES - 1, &mut out).expect("accepted");
+        black_box(&out);
+    }
+}
+
+/// A whole sheet's clause text, one call for each line's list.
+fn text_by_calls(sheet: &[u8]) -> impl FnMut(Calls) + '_ {
+    let mut text = TextWriter::new(dev_null());
+    let mut out = [0; MAX_LINE_CLAUSES];
+    move |calls| {
+        let lines = (calls.read)(black_box(sheet)).expect("accepted");
+        for line in 0..lines {
+            let length = (calls.line_clauses)(sheet, line, &mut out).expect("accepted");
+            text.clauses(&out[..length]).expect("/dev/null takes all");
+        }
+        text.flush().expect("/dev/null takes all");
+    }
+}
+
+/// The same as the reference's program does it: the sheet is read just once.
+fn text_of_one_reading(sheet: &[u8]) -> impl FnMut(Calls) + '_ {
+    let mut text = TextWriter::new(dev_null());
+    let mut out = [0; MAX_LINE_CLAUSES];
+    move |_| {
+        let sheet = Sheet::read(black_box(sheet)).expect("accepted");
+        for line in 0..sheet.line_count() {
+            let list = &mut out[..sheet.line_clauses_len(line)];
+            sheet.line_clauses(line, list);
+            text.clauses(list).expect("/dev/null takes all");
+        }
+        text.flush().expect("/dev/null takes all");
+    }
+}
+
+fn dev_null() -> File {
+    let opened = OpenOptions::new().write(true).open("/dev/null");
+    opened.expect("/dev/null can be written")
+}
+
+struct Case<'a> {
+    name: &'static str,
+    work: Box<dyn FnMut(Calls) + 'a>,
+    archive: Side,
+    reference: Side,
+}
+
+impl<'a> Case<'a> {
+    fn new(name: &'static str, work: impl FnMut(Calls) + 'a) -> Case<'a> {
+        Case {
+            name,
+            work: Box::new(work),
+            archive: Side::new(ARCHIVE),
+            reference: Side::new(Some(REFERENCE)),
+        }
+    }
+
+    /// A case to which the archive has nothing.
+    fn of_reference(name: &'static str, work: impl FnMut(Calls) + 'a) -> Case<'a> {
+        Case {
+            archive: Side::new(None),
+            ..Case::new(name, work)
+        }
+    }
+
+    fn measure(&mut self, round: usize) {
+        let (first, second) = if round.is_multiple_of(2) {
+            (&mut self.archive, &mut self.reference)
+        } else {
+            (&mut self.reference, &mut self.archive)
+        };
+        first.measure(&mut self.work);
+        second.measure(&mut self.work);
+    }
+
+    fn print(&self) {
+        let (archive, reference) = (&self.archive.times, &self.reference.times);
+        let ratios: Vec<f64> = archive.iter().zip(reference).map(|(a, r)| a / r).collect();
+        let of_fastest = fastest(archive).zip(fastest(reference)).map(|(a, r)| a / r);
+        print_row(
+            self.name,
+            &shown(median(archive), time),
+            &shown(median(reference), time),
+            &shown(median(&ratios), |ratio| format!("{ratio:.2}")),
+            &shown(of_fastest, |ratio| format!("{ratio:.2}")),
+        );
+    }
+}
+
+/// One of the two, and its times in nanoseconds, a time for each round.
+struct Side {
+    calls: Option<Calls>,
+    repeats: u32,
+    times: Vec<f64>,
+}
+
+impl Side {
+    fn new(calls: Option<Calls>) -> Side {
+        Side {
+            calls,
+            repeats: 0,
+            times: Vec::with_capacity(ROUNDS),
+        }
+    }
+
+    fn measure(&mut self, work: &mut dyn FnMut(Calls)) {
+        let Some(calls) = self.calls else { return };
+        if self.repeats == 0 {
+            self.repeats = enough_repeats(calls, work);
+        }
+        let start = Instant::now();
+        for _ in 0..self.repeats {
+            work(calls);
+        }
+        let time = start.elapsed().as_nanos() as f64;
+        self.times.push(time / f64::from(self.repeats));
+    }
+}
+
+/// So many that the clock's own steps do not matter. Warms up, too.
+fn enough_repeats(calls: Calls, work: &mut dyn FnMut(Calls)) -> u32 {
+    let start = Instant::now();
+    let mut repeats = 0;
+    while start.elapsed() < TIME_OF_ONE_MEASURE {
+        work(calls);
+        repeats += 1;
+    }
+    repeats
+}
+
+fn median(numbers: &[f64]) -> Option<f64> {
+    let mut sorted = numbers.to_vec();
+    sorted.sort_by(f64::total_cmp);
+    sorted.get(sorted.len() / 2).copied()
+}
+
+fn fastest(times: &[f64]) -> Option<f64> {
+    times.iter().copied().min_by(f64::total_cmp)
+}
+
+fn print_row(name: &str, archive: &str, reference: &str, ratio: &str, fastest: &str) {
+    println!("{name:<30} {archive:>10} {reference:>10} {ratio:>8} {fastest:>8}");
+}
+
+fn shown(number: Option<f64>, text: impl FnOnce(f64) -> String) -> String {
+    number.map_or("-".into(), text)
+}
+
+fn time(nanoseconds: f64) -> String {
+    match nanoseconds {
+        ..1e3 => format!("{nanoseconds:.0} ns"),
+        1e3..1e6 => format!("{:.2} us", nanoseconds / 1e3),
+        _ => format!("{:.2} ms", nanoseconds / 1e6),
+    }
+}
+
+/// A sheet of full size with lines of these kinds in turn. Its differences are
+/// those of two runs, so that no line is impossible.
+fn sheet_of(kinds: &[u8]) -> Vec<u8> {
+    let mut random = Random(1);
+    let mut first: Vec<u32> = (0..8).map(|_| random.word()).collect();
+    let mut second: Vec<u32> = first.iter().map(|x| x ^ random.sparse_word()).collect();
+    let differences: Vec<u32> = first.iter().zip(&second).map(|(x, y)| x ^ y).collect();
+    let mut sheet = SheetBuilder::new(32, &differences);
+    for kind in kinds.iter().cycle().take(MAX_LINES) {
+        // The two operands have different remainders modulo 2.
+        let a = random.word() as usize % (first.len() / 2) * 2;
+        let b = random.word() as usize % (first.len() / 2) * 2 + 1;
+        let constant = random.word();
+        let amount = 1 + random.word() % 31;
+        let result = |words: &[u32]| match kind {
+            1 => words[a] ^ words[b],
+            2 => words[a] ^ constant,
+            3 => words[a].rotate_left(amount),
+            4 => words[a].rotate_right(amount),
+            5 => words[a].wrapping_add(words[b]),
+            _ => words[a].wrapping_add(constant),
+        };
+        let (x, y) = (result(&first), result(&second));
+        first.push(x);
+        second.push(y);
+        let (a, b, amount, difference) = (a as u16, b as u16, amount as u8, x ^ y);
+        sheet.line(match kind {
+            1 => Line::xor(a, b, difference),
+            2 => Line::xor_constant(a, constant, difference),
+            3 => Line::rotate_left(a, amount, difference),
+            4 => Line::rotate_right(a, amount, difference),
+            5 => Line::add(a, b, difference),
+            _ => Line::add_constant(a, constant, difference),
+        });
+    }
+    sheet.seal().expect("an accepted sheet")
+}
+
+/// Steele, Lea and Flood's SplitMix64.
+struct Random(u64);
+
+impl Random {
+    fn word(&mut self) -> u32 {
+        self.0 = self.0.wrapping_add(0x9e37_79b9_7f4a_7c15);
+        let mut z = self.0;
+        z = (z ^ z >> 30).wrapping_mul(0xbf58_476d_1ce4_e5b9);
+        z = (z ^ z >> 27).wrapping_mul(0x94d0_49bb_1331_11eb);
+        ((z ^ z >> 31) >> 32) as u32
+    }
+
+    /// Few ones, so that there are quiet stretches for chains.
+    fn sparse_word(&mut self) -> u32 {
+        self.word() & self.word() & self.word()
+    }
+}

@@ -1,0 +1,65 @@
+//! The archive's calls as C declares them in `include/tablegull.h`.
+//!
+//! The safe calls at the root of this crate are the ones to use.
+
+/// What every call of the archive returns.
+#[repr(C)]
+#[derive(Clone, Copy, Debug, PartialEq, Eq)]
+pub struct Answer {
+    /// 0, or the number of the refusal.
+    pub number: u32,
+    /// 0, or the block or line that the refusal names.
+    pub place: u32,
+    /// 0 if refused, else what the call says.
+    pub count: u64,
+}
+
+extern "C" {
+    /// Reads a sheet; count: its lines.
+    pub fn tablegull_read(sheet: *const u8, len: usize) -> Answer;
+
+    /// Seals a sheet; count: its blocks.
+    pub fn tablegull_seal(sheet: *mut u8, len: usize) -> Answer;
+
+    /// Writes one line's report; count: 16.
+    pub fn tablegull_line_report(
+        sheet: *const u8,
+        len: usize,
+        line: u64,
+        out: *mut u8,
+        out_len: usize,
+    ) -> Answer;
+
+    /// Writes all lines' reports; count: the bytes written.
+    pub fn tablegull_report(sheet: *const u8, len: usize, out: *mut u8, out_len: usize) -> Answer;
+
+    /// Writes impossible lines, weight and chains; count: 3.
+    pub fn tablegull_totals(sheet: *const u8, len: usize, out: *mut u64, out_len: usize) -> Answer;
+
+    /// Runs the program twice and compares; count: 3.
+    pub fn tablegull_two_runs(
+        sheet: *const u8,
+        len: usize,
+        start: *const u64,
+        start_len: usize,
+        out: *mut u64,
+        out_len: usize,
+    ) -> Answer;
+
+    /// Writes the numbers of variables and clauses; count: 2.
+    pub fn tablegull_clause_counts(
+        sheet: *const u8,
+        len: usize,
+        out: *mut u64,
+        out_len: usize,
+    ) -> Answer;
+
+    /// Writes one line's clauses; count: the numbers written.
+    pub fn tablegull_line_clauses(
+        sheet: *const u8,
+        len: usize,
+        line: u64,
+        out: *mut i32,
+        out_len: usize,
+    ) -> Answer;
+}

@@ -1,0 +1,130 @@
+//! The trail checker in plain Rust, written from document 01 alone.
+//!
+//! The calls have the signatures and the order of refusals of the archive's
+//! calls at the root of this crate. They share no code with the archive, so
+//! that the two can be held against each other.
+//!
+//! [`Sheet`] reads once and answers many times, for programs that go through
+//! all lines.
+
+mod clauses;
+mod line_report;
+mod runs;
+mod sheet;
+
+pub use clauses::ClauseCounts;
+pub use line_report::{LineReport, Sixteenths, Totals, WholeBits};
+pub use runs::Disagreement;
+pub use sheet::Sheet;
+
+use crate::{Refusal, LINE_REPORT};
+
+/// Reads a sheet and answers its number of lines.
+pub fn read(sheet: &[u8]) -> Result<usize, Refusal> {
+    Ok(Sheet::read(sheet)?.line_count())
+}
+
+/// Seals a sheet: asks all questions but the one about checks, then writes the
+/// checks. Answers the number of blocks.
+pub fn seal(sheet: &mut [u8]) -> Result<usize, Refusal> {
+    sheet::seal(sheet)
+}
+
+/// Writes one line's report, 16 bytes. Answers 16.
+pub fn line_report(sheet: &[u8], line: usize, out: &mut [u8]) -> Result<usize, Refusal> {
+    let sheet = Sheet::read(sheet)?;
+    ask_line(&sheet, line)?;
+    let out = ask_room(out, LINE_REPORT)?;
+    sheet.line_report(line).write(out);
+    Ok(LINE_REPORT)
+}
+
+/// Writes the reports of all lines in order, 16 bytes each. Answers the number
+/// of bytes written.
+pub fn report(sheet: &[u8], out: &mut [u8]) -> Result<usize, Refusal> {
+    let sheet = Sheet::read(sheet)?;
+    let need = LINE_REPORT * sheet.line_count();
+    let out = ask_room(out, need)?;
+    for (line, bytes) in out.chunks_exact_mut(LINE_REPORT).enumerate() {
+        sheet.line_report(line).write(bytes);
+    }
+    Ok(need)
+}
+
+/// Writes the sheet's totals: impossible lines, the others' weight in
+/// sixteenths of a bit, chains. Answers 3.
+pub fn totals(sheet: &[u8], out: &mut [u64]) -> Result<usize, Refusal> {
+    let sheet = Sheet::read(sheet)?;
+    let out = ask_room(out, 3)?;
+    let totals = sheet.totals();
+    let Sixteenths(weight) = totals.weight;
+    out.copy_from_slice(&[
+        totals.impossible.into(),
+        weight.into(),
+        totals.chains.into(),
+    ]);
+    Ok(3)
+}
+
+/// Runs the program on the starting words and on the starting words XOR the
+/// input differences. Writes 1, 0, 0 if the two runs follow the trail, else 0
+/// with the first line and its lowest bit where they disagree. Answers 3.
+pub fn two_runs(sheet: &[u8], start: &[u64], out: &mut [u64]) -> Result<usize, Refusal> {
+    let sheet = Sheet::read(sheet)?;
+    let out = ask_room(out, 3)?;
+    let answer = match sheet.two_runs(start)? {
+        None => [1, 0, 0],
+        Some(Disagreement { line, bit }) => [0, line as u64, bit.into()],
+    };
+    out.copy_from_slice(&answer);
+    Ok(3)
+}
+
+/// Writes the numbers of the sheet's variables and clauses. Answers 2.
+pub fn clause_counts(sheet: &[u8], out: &mut [u64]) -> Result<usize, Refusal> {
+    let sheet = Sheet::read(sheet)?;
+    let out = ask_room(out, 2)?;
+    let counts = sheet.clause_counts();
+    out.copy_from_slice(&[counts.variables as u64, counts.clauses as u64]);
+    Ok(2)
+}
+
+/// Writes one line's clauses, each followed by 0. Answers the count of numbers
+/// written.
+pub fn line_clauses(sheet: &[u8], line: usize, out: &mut [i32]) -> Result<usize, Refusal> {
+    let sheet = Sheet::read(sheet)?;
+    ask_line(&sheet, line)?;
+    let need = sheet.line_clauses_len(line);
+    let out = ask_room(out, need)?;
+    sheet.line_clauses(line, out);
+    Ok(need)
+}
+
+/// Is the line number below L? 17
+fn ask_line(sheet: &Sheet, line: usize) -> Result<(), Refusal> {
+    refuse_unless(line < sheet.line_count(), 17, 0)
+}
+
+/// Is the output buffer long enough for this very answer? 18
+fn ask_room<T>(out: &mut [T], need: usize) -> Result<&mut [T], Refusal> {
+    match out.get_mut(..need) {
+        Some(room) => Ok(room),
+        None => refuse(18, 0),
+    }
+}
+
+fn refuse_unless(yes: bool, number: u32, place: usize) -> Result<(), Refusal> {
+    if yes {
+        Ok(())
+    } else {
+        refuse(number, place)
+    }
+}
+
+/// Places are blocks and lines of a sheet, so they fit any number.
+fn refuse<T>(number: u32, place: usize) -> Result<T, Refusal> {
+    Err(Refusal {
+        number,
+        place: place as u32,
+    })
+}

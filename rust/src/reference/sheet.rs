@@ -1,0 +1,274 @@
+//! The sheet's layout, the questions about it, and sealing.
+
+use super::{refuse, refuse_unless};
+use crate::{Refusal, MAX_LINES, MAX_SHEET};
+
+const BLOCK: usize = 512;
+const CHECK: usize = 508;
+const LINES_IN_BLOCK: usize = 31;
+const RECORD: usize = 16;
+const RECORDS_END: usize = LINES_IN_BLOCK * RECORD;
+const MARK: [u8; 4] = [0x41, 0x52, 0x58, 0x54];
+const MAX_INPUTS: usize = 8;
+const INPUTS_START: usize = 8;
+const INPUTS_END: usize = INPUTS_START + 4 * MAX_INPUTS;
+
+pub(super) const XOR: u8 = 1;
+pub(super) const XOR_CONSTANT: u8 = 2;
+pub(super) const ROTATE_LEFT: u8 = 3;
+pub(super) const ROTATE_RIGHT: u8 = 4;
+pub(super) const ADD: u8 = 5;
+pub(super) const ADD_CONSTANT: u8 = 6;
+
+/// A sheet to which all sixteen questions had the answer yes.
+#[derive(Clone, Copy, Debug)]
+pub struct Sheet<'a> {
+    bytes: &'a [u8],
+    width: u32,
+    inputs: usize,
+    lines: usize,
+}
+
+/// A line's record, field by field.
+#[derive(Clone, Copy, Debug)]
+pub(super) struct Record {
+    pub kind: u8,
+    pub amount: u8,
+    pub first: u16,
+    pub second: u16,
+    zero: u16,
+    pub constant: u32,
+    pub difference: u32,
+}
+
+impl Record {
+    fn decode(bytes: &[u8; RECORD]) -> Record {
+        let [kind, amount, f0, f1, s0, s1, z0, z1, c0, c1, c2, c3, d0, d1, d2, d3] = *bytes;
+        Record {
+            kind,
+            amount,
+            first: u16::from_le_bytes([f0, f1]),
+            second: u16::from_le_bytes([s0, s1]),
+            zero: u16::from_le_bytes([z0, z1]),
+            constant: u32::from_le_bytes([c0, c1, c2, c3]),
+            difference: u32::from_le_bytes([d0, d1, d2, d3]),
+        }
+    }
+
+    fn names_two_words(&self) -> bool {
+        matches!(self.kind, XOR | ADD)
+    }
+
+    fn rotates(&self) -> bool {
+        matches!(self.kind, ROTATE_LEFT | ROTATE_RIGHT)
+    }
+
+    fn has_constant(&self) -> bool {
+        matches!(self.kind, XOR_CONSTANT | ADD_CONSTANT)
+    }
+
+    fn unused_fields_are_zero(&self) -> bool {
+        self.zero == 0
+            && (self.rotates() || self.amount == 0)
+            && (self.names_two_words() || self.second == 0)
+            && (self.has_constant() || self.constant == 0)
+    }
+}
+
+/// The ones below 2^width.
+pub(super) fn mask(width: u32) -> u32 {
+    u32::MAX >> (32 - width)
+}
+
+impl<'a> Sheet<'a> {
+    /// Reads a sheet: asks the sixteen questions in their order.
+    pub fn read(bytes: &'a [u8]) -> Result<Sheet<'a>, Refusal> {
+        ask_length(bytes)?;
+        ask_checks(bytes)?;
+        read_contents(bytes)
+    }
+
+    /// The width n of the words.
+    pub fn width(&self) -> u32 {
+        self.width
+    }
+
+    /// The number m of input words.
+    pub fn input_count(&self) -> usize {
+        self.inputs
+    }
+
+    /// The number L of lines.
+    pub fn line_count(&self) -> usize {
+        self.lines
+    }
+
+    pub(super) fn mask(&self) -> u32 {
+        mask(self.width)
+    }
+
+    pub(super) fn record(&self, line: usize) -> Record {
+        let start = BLOCK * (1 + line / LINES_IN_BLOCK) + RECORD * (line % LINES_IN_BLOCK);
+        Record::decode(self.bytes[start..].first_chunk().expect("line below L"))
+    }
+
+    /// The lines' records in order.
+    pub(super) fn records(&self) -> impl Iterator<Item = Record> + 'a {
+        line_blocks(self.bytes)
+            .flat_map(|block| block[..RECORDS_END].chunks_exact(RECORD))
+            .take(self.lines)
+            .map(|bytes| Record::decode(bytes.first_chunk().expect("a whole record")))
+    }
+
+    /// The stated difference of a word: an input's or a line's.
+    pub(super) fn difference(&self, word: u16) -> u32 {
+        let word = usize::from(word);
+        if word < self.inputs {
+            input_difference(self.bytes, word)
+        } else {
+            self.record(word - self.inputs).difference
+        }
+    }
+
+    /// The stated differences of the input words.
+    pub(super) fn input_differences(&self) -> impl Iterator<Item = u32> + 'a {
+        let bytes = self.bytes;
+        (0..self.inputs).map(move |word| input_difference(bytes, word))
+    }
+
+    /// Questions 9 to 15 about one line.
+    fn ask_line(&self, record: &Record, line: usize) -> Result<(), Refusal> {
+        let made = self.inputs + line;
+        let earlier = |word: u16| usize::from(word) < made;
+        let mask = self.mask();
+
+        if !(XOR..=ADD_CONSTANT).contains(&record.kind) {
+            refuse(9, line)
+        } else if !earlier(record.first) || record.names_two_words() && !earlier(record.second) {
+            refuse(10, line)
+        } else if record.kind == ADD && record.first == record.second {
+            refuse(11, line)
+        } else if record.rotates() && !(1..self.width).contains(&record.amount.into()) {
+            refuse(12, line)
+        } else if record.has_constant() && record.constant > mask {
+            refuse(13, line)
+        } else if record.difference > mask {
+            refuse(14, line)
+        } else if !record.unused_fields_are_zero() {
+            refuse(15, line)
+        } else {
+            Ok(())
+        }
+    }
+
+    fn ask_lines(&self) -> Result<(), Refusal> {
+        self.records()
+            .enumerate()
+            .try_for_each(|(line, record)| self.ask_line(&record, line))
+    }
+
+    /// Are records past L and the 12 bytes zero in every line block? 16
+    fn ask_line_block_rests(&self) -> Result<(), Refusal> {
+        let mut lines_left = self.lines;
+        for (index, block) in blocks(self.bytes).enumerate().skip(1) {
+            let lines = lines_left.min(LINES_IN_BLOCK);
+            lines_left -= lines;
+            refuse_unless(is_zero(&block[lines * RECORD..CHECK]), 16, index)?;
+        }
+        Ok(())
+    }
+}
+
+/// Seals a sheet: writes every block's check once all other questions have the
+/// answer yes.
+pub(super) fn seal(bytes: &mut [u8]) -> Result<usize, Refusal> {
+    ask_length(bytes)?;
+    read_contents(bytes)?;
+    for (index, block) in bytes.chunks_exact_mut(BLOCK).enumerate() {
+        let check = block_check(block, index);
+        block[CHECK..].copy_from_slice(&check.to_le_bytes());
+    }
+    Ok(bytes.len() / BLOCK)
+}
+
+/// Questions 3 to 16.
+fn read_contents(bytes: &[u8]) -> Result<Sheet<'_>, Refusal> {
+    let sheet = read_header(bytes)?;
+    sheet.ask_lines()?;
+    sheet.ask_line_block_rests()?;
+    Ok(sheet)
+}
+
+/// Questions 3 to 8.
+fn read_header(bytes: &[u8]) -> Result<Sheet<'_>, Refusal> {
+    let sheet = Sheet {
+        bytes,
+        width: bytes[4].into(),
+        inputs: bytes[5].into(),
+        lines: u16::from_le_bytes([bytes[6], bytes[7]]).into(),
+    };
+    refuse_unless(bytes[..4] == MARK, 3, 0)?;
+    refuse_unless((2..=32).contains(&sheet.width), 4, 0)?;
+    refuse_unless((1..=MAX_INPUTS).contains(&sheet.inputs), 5, 0)?;
+    let needed_blocks = sheet.lines.div_ceil(LINES_IN_BLOCK);
+    let lines_fit = (1..=MAX_LINES).contains(&sheet.lines);
+    refuse_unless(lines_fit && needed_blocks == line_blocks(bytes).len(), 6, 0)?;
+    refuse_unless(input_differences_fit(&sheet), 7, 0)?;
+    refuse_unless(is_zero(&bytes[INPUTS_END..CHECK]), 8, 0)?;
+    Ok(sheet)
+}
+
+fn input_differences_fit(sheet: &Sheet) -> bool {
+    let unused = INPUTS_START + 4 * sheet.inputs..INPUTS_END;
+    let mask = sheet.mask();
+    sheet
+        .input_differences()
+        .all(|difference| difference <= mask)
+        && is_zero(&sheet.bytes[unused])
+}
+
+/// Is the length a multiple of 512 from 1,024 to 4,608? 1
+fn ask_length(bytes: &[u8]) -> Result<(), Refusal> {
+    let length = bytes.len();
+    let fits = length.is_multiple_of(BLOCK) && (2 * BLOCK..=MAX_SHEET).contains(&length);
+    refuse_unless(fits, 1, 0)
+}
+
+/// Is each block's check right? 2
+fn ask_checks(bytes: &[u8]) -> Result<(), Refusal> {
+    for (index, block) in blocks(bytes).enumerate() {
+        let right = block[CHECK..] == block_check(block, index).to_le_bytes();
+        refuse_unless(right, 2, index)?;
+    }
+    Ok(())
+}
+
+fn block_check(block: &[u8], index: usize) -> u32 {
+    block[..CHECK]
+        .chunks_exact(4)
+        .map(little_endian)
+        .fold(index as u32, u32::wrapping_add)
+}
+
+fn blocks(bytes: &[u8]) -> std::slice::ChunksExact<'_, u8> {
+    bytes.chunks_exact(BLOCK)
+}
+
+fn line_blocks(bytes: &[u8]) -> std::slice::ChunksExact<'_, u8> {
+    blocks(&bytes[BLOCK..])
+}
+
+fn input_difference(bytes: &[u8], word: usize) -> u32 {
+    little_endian(&bytes[INPUTS_START + 4 * word..])
+}
+
+fn little_endian(bytes: &[u8]) -> u32 {
+    u32::from_le_bytes(*bytes.first_chunk().expect("four bytes"))
+}
+
+/// Joins all bytes instead of stopping at the first one that is not zero:
+/// nearly every sheet has only zeros here, and so the loop can go many bytes
+/// at a time.
+fn is_zero(bytes: &[u8]) -> bool {
+    bytes.iter().fold(0, |joined, byte| joined | byte) == 0
+}

@@ -1,0 +1,464 @@
+//! The archive held against the reference: answers, refusals and every lent
+//! byte, on many thousands of sheets.
+
+mod common;
+
+#[cfg(not(has_archive))]
+#[test]
+#[ignore = "libtablegull.a was not found, so NOTHING IS COMPARED WITH THE ARCHIVE"]
+fn the_archive_is_left_out() {}
+
+#[cfg(has_archive)]
+mod compared {
+    use std::fmt::Debug;
+    use std::path::Path;
+
+    use super::common::{
+        disturb, random_program, write_checks, Outcome, Program, Random, ARCHIVE, REFERENCE,
+    };
+
+    /// Writes a sheet to a file if a comparison on it fails, to look into it.
+    struct KeptOnFailure<'a>(&'a [u8]);
+
+    impl Drop for KeptOnFailure<'_> {
+        fn drop(&mut self) {
+            if std::thread::panicking() {
+                let thread = std::thread::current();
+                let test = thread.name().and_then(|name| name.split("::").last());
+                let name = format!("failed-{}.sheet", test.unwrap_or("test"));
+                let path = Path::new(env!("CARGO_TARGET_TMPDIR")).join(name);
+                if std::fs::write(&path, self.0).is_ok() {
+                    eprintln!("the sheet is in {}", path.display());
+                }
+            }
+        }
+    }
+
+    /// What a buffer is filled with before a call.
+    trait Element: Copy + Debug + PartialEq {
+        fn of(bits: u64) -> Self;
+    }
+
+    impl Element for u8 {
+        fn of(bits: u64) -> u8 {
+            bits as u8
+        }
+    }
+
+    impl Element for u64 {
+        fn of(bits: u64) -> u64 {
+            bits
+        }
+    }
+
+    impl Element for i32 {
+        fn of(bits: u64) -> i32 {
+            bits as i32
+        }
+    }
+
+    /// Lends both calls the same buffer, a part of a longer one, and compares
+    /// what they answer and the whole of the longer one afterwards.
+    fn compare<T: Element>(
+        random: &mut Random,
+        length: usize,
+        call: &str,
+        archive: impl FnOnce(&mut [T]) -> Outcome,
+        reference: impl FnOnce(&mut [T]) -> Outcome,
+    ) {
+        let guard = 1 + random.below(8);
+        let noise = random.next() | 1;
+        let before: Vec<T> = (0..length + 2 * guard)
+            .map(|index| T::of(noise.wrapping_mul(2 * index as u64 + 1) >> 11))
+            .collect();
+        let lent = guard..guard + length;
+        let (mut ours, mut theirs) = (before.clone(), before.clone());
+        let answer = archive(&mut theirs[lent.clone()]);
+        let expected = reference(&mut ours[lent.clone()]);
+        assert_eq!(answer, expected, "{call}, buffer of {length}");
+        if let Some(at) = (0..before.len()).find(|&at| ours[at] != theirs[at]) {
+            panic!(
+                "{call}, buffer of {length}: {:?} at {}, the reference has {:?}",
+                theirs[at],
+                at as isize - guard as isize,
+                ours[at]
+            );
+        }
+        let written = answer.unwrap_or(0);
+        assert!(theirs[..guard] == before[..guard], "{call}: before");
+        assert!(
+            theirs[guard + written..] == before[guard + written..],
+            "{call}: past the answer"
+        );
+    }
+
+    /// Lengths about the need: too short, exact and longer.
+    fn lengths(random: &mut Random, need: usize) -> [usize; 4] {
+        [
+            random.below(need),
+            need - 1,
+            need,
+            need + 1 + random.below(40),
+        ]
+    }
+
+    fn compare_reading(random: &mut Random, sheet: &[u8]) -> Outcome {
+        let answer = (ARCHIVE.read)(sheet);
+        assert_eq!(answer, (REFERENCE.read)(sheet), "read");
+        compare_sealing(random, sheet);
+        answer
+    }
+
+    fn compare_sealing(random: &mut Random, sheet: &[u8]) {
+        // Lent as a part of a longer buffer, as in `compare`.
+        let guard = 1 + random.below(8);
+        let mut ours = vec![0xa5; sheet.len() + 2 * guard];
+        ours[guard..guard + sheet.len()].copy_from_slice(sheet);
+        let (before, mut theirs) = (ours.clone(), ours.clone());
+        let answer = (ARCHIVE.seal)(&mut theirs[guard..guard + sheet.len()]);
+        let expected = (REFERENCE.seal)(&mut ours[guard..guard + sheet.len()]);
+        assert_eq!(answer, expected, "seal");
+        assert!(ours == theirs, "seal: other contents");
+        match answer {
+            Ok(blocks) => {
+                assert_eq!(512 * blocks, sheet.len());
+                let sealed = &theirs[guard..guard + sheet.len()];
+                assert!((ARCHIVE.read)(sealed).is_ok(), "a sealed sheet is readable");
+            }
+            Err(_) => assert!(theirs == before, "seal: a refusal that wrote"),
+        }
+    }
+
+    fn compare_line_calls(random: &mut Random, sheet: &[u8], line: usize, length: usize) {
+        compare(
+            random,
+            length,
+            "line_report",
+            |out| (ARCHIVE.line_report)(sheet, line, out),
+            |out| (REFERENCE.line_report)(sheet, line, out),
+        );
+        compare(
+            random,
+            length,
+            "line_clauses",
+            |out| (ARCHIVE.line_clauses)(sheet, line, out),
+            |out| (REFERENCE.line_clauses)(sheet, line, out),
+        );
+    }
+
+    fn compare_report(random: &mut Random, sheet: &[u8], length: usize) {
+        compare(
+            random,
+            length,
+            "report",
+            |out| (ARCHIVE.report)(sheet, out),
+            |out| (REFERENCE.report)(sheet, out),
+        );
+    }
+
+    fn compare_small_calls(random: &mut Random, sheet: &[u8], start: &[u64], length: usize) {
+        compare(
+            random,
+            length,
+            "totals",
+            |out| (ARCHIVE.totals)(sheet, out),
+            |out| (REFERENCE.totals)(sheet, out),
+        );
+        compare(
+            random,
+            length,
+            "clause_counts",
+            |out| (ARCHIVE.clause_counts)(sheet, out),
+            |out| (REFERENCE.clause_counts)(sheet, out),
+        );
+        compare(
+            random,
+            length,
+            "two_runs",
+            |out| (ARCHIVE.two_runs)(sheet, start, out),
+            |out| (REFERENCE.two_runs)(sheet, start, out),
+        );
+    }
+
+    /// Starting words that fit, and such as do not in all ways.
+    fn starts(random: &mut Random, program: &Program, start: &[u64]) -> Vec<Vec<u64>> {
+        let mut starts = vec![program.random_start(random)];
+        let mut one_bit_off = start.to_vec();
+        one_bit_off[random.below(start.len())] ^= 1 << random.below(program.width as usize);
+        starts.push(one_bit_off);
+        starts.push(start[..random.below(start.len())].to_vec());
+        let mut too_long = start.to_vec();
+        too_long.extend((0..1 + random.below(9)).map(|_| 0));
+        starts.push(too_long);
+        for large in [
+            1 << program.width,
+            1 << random.pick(&[32, 33, 63]),
+            u64::MAX,
+            random.next(),
+        ] {
+            let mut words = start.to_vec();
+            words[random.below(start.len())] = large;
+            starts.push(words);
+        }
+        starts
+    }
+
+    /// All calls on an accepted sheet, with buffers about each need.
+    fn compare_accepted(random: &mut Random, program: &Program, start: &[u64]) {
+        let sheet = program.sheet();
+        let _kept = KeptOnFailure(&sheet);
+        let lines = program.steps.len();
+        assert_eq!(compare_reading(random, &sheet), Ok(lines));
+        for length in lengths(random, 16 * lines) {
+            compare_report(random, &sheet, length);
+        }
+        for length in 0..5 {
+            compare_small_calls(random, &sheet, start, length);
+        }
+        for start in starts(random, program, start) {
+            let length = random.pick(&[2, 3, 3, 3, 5]);
+            compare_small_calls(random, &sheet, &start, length);
+        }
+        let mut probe = vec![0; 4944];
+        for line in [0, random.below(lines), lines - 1] {
+            for length in lengths(random, 16) {
+                compare_line_calls(random, &sheet, line, length);
+            }
+            let need = (REFERENCE.line_clauses)(&sheet, line, &mut probe).unwrap();
+            for length in lengths(random, need) {
+                compare_line_calls(random, &sheet, line, length);
+            }
+        }
+        for line in [lines, lines + 1, 248, 1 << 16, 1 << 32, usize::MAX] {
+            let length = random.pick(&[0, 15, 16, 5000]);
+            compare_line_calls(random, &sheet, line, length);
+        }
+        assert!(sheet == program.sheet(), "a read-only sheet was written");
+    }
+
+    /// All calls once on any bytes.
+    fn compare_any(random: &mut Random, sheet: &[u8]) -> Outcome {
+        let _kept = KeptOnFailure(sheet);
+        let before = sheet.to_vec();
+        let answer = compare_reading(random, sheet);
+        let line = random.pick(&[0, 0, 1, 30, 31, 247, 248, usize::MAX]);
+        let length = random.pick(&[0, 1, 2, 3, 4, 15, 16, 17, 496, 3968, 5000]);
+        let start: Vec<u64> = (0..random.below(10)).map(|_| random.next() >> 60).collect();
+        compare_line_calls(random, sheet, line, length);
+        compare_report(random, sheet, length);
+        compare_small_calls(random, sheet, &start, length.min(8));
+        assert!(sheet == before, "a read-only sheet was written");
+        answer
+    }
+
+    /// Mostly short programs, and those at the blocks' edges.
+    fn random_lines(random: &mut Random) -> usize {
+        match random.below(8) {
+            0 => random.pick(&[1, 30, 31, 32, 61, 62, 63, 93, 217, 218, 247, 248]),
+            1 => 1 + random.below(248),
+            _ => 1 + random.below(20),
+        }
+    }
+
+    fn random_shape(random: &mut Random) -> (Program, Vec<u64>) {
+        let width = 2 + random.below(31) as u32;
+        let inputs = 1 + random.below(8);
+        let lines = random_lines(random);
+        random_program(random, width, inputs, lines)
+    }
+
+    #[test]
+    fn accepted_sheets_at_all_widths() {
+        let mut random = Random::new(100);
+        for width in (2..=32).cycle().take(31 * 300) {
+            let (inputs, lines) = (1 + random.below(8), random_lines(&mut random));
+            let (mut program, start) = random_program(&mut random, width, inputs, lines);
+            if random.one_in(2) {
+                disturb(&mut random, &mut program);
+            }
+            compare_accepted(&mut random, &program, &start);
+        }
+    }
+
+    #[test]
+    fn every_line_of_full_sheets() {
+        let mut random = Random::new(101);
+        for width in [2, 3, 15, 16, 17, 31, 32, 32] {
+            let (program, _) = random_program(&mut random, width, 8, 248);
+            let sheet = program.sheet();
+            let _kept = KeptOnFailure(&sheet);
+            for line in 0..248 {
+                compare_line_calls(&mut random, &sheet, line, 4944);
+            }
+        }
+    }
+
+    #[test]
+    fn every_byte_damaged() {
+        let mut random = Random::new(102);
+        for lines in [1, 20, 31, 32, 70] {
+            let width = 2 + random.below(31) as u32;
+            let inputs = 2 + random.below(7);
+            let (program, _) = random_program(&mut random, width, inputs, lines);
+            let sheet = program.sheet();
+            for at in 0..sheet.len() {
+                let mut bytes = sheet.clone();
+                let old = bytes[at];
+                for new in [
+                    old ^ 1,
+                    old ^ 0x80,
+                    old.wrapping_sub(1),
+                    random.next() as u8,
+                ] {
+                    bytes[at] = new;
+                    if new != old {
+                        // A damage of one byte is always a wrong check.
+                        let refusal = compare_any(&mut random, &bytes).unwrap_err();
+                        assert_eq!((refusal.number, refusal.place), (2, at as u32 / 512));
+                    }
+                    let mut resealed = bytes.clone();
+                    write_checks(&mut resealed);
+                    compare_any(&mut random, &resealed).ok();
+                }
+            }
+        }
+    }
+
+    /// Mostly among the first: most programs are short.
+    fn record_in_block(random: &mut Random) -> usize {
+        match random.below(3) {
+            0 => random.below(31),
+            _ => random.below(6),
+        }
+    }
+
+    /// Puts a value at or near a bound into a field chosen by chance.
+    fn damage_a_field(random: &mut Random, bytes: &mut [u8]) {
+        let width = u32::from(bytes[4]).clamp(2, 32);
+        let words = u64::from(bytes[5]) + u64::from(bytes[6]);
+        let at_bound = match random.below(6) {
+            0 => 1 << width,
+            1 => (1 << width) - 1,
+            2 => words.wrapping_sub(random.below(3) as u64),
+            3 => random.below(34) as u64,
+            4 => random.below(8) as u64,
+            _ => random.next() >> random.below(64),
+        };
+        let blocks = bytes.len() / 512;
+        let block = 512 * random.below(blocks.max(1));
+        let record = 512 * (1 + random.below(blocks.saturating_sub(1).max(1)))
+            + 16 * record_in_block(random);
+        let (at, size) = match random.below(16) {
+            0 => (random.below(4), 1),
+            1 => (4, 1),
+            2 => (5, 1),
+            3 => (6, 2),
+            4 => (8 + 4 * random.below(8), 4),
+            5 => (40 + random.below(468), 1),
+            6 => (record, 1),
+            7 => (record + 1, 1),
+            8 | 9 => (record + 2, 2),
+            10 => (record + 4, 2),
+            11 => (record + 6, 2),
+            12 => (record + 8, 4),
+            13 => (record + 12, 4),
+            14 => (block + 496 + random.below(12), 1),
+            _ => (block + 508, 4),
+        };
+        if let Some(field) = bytes.get_mut(at..at + size) {
+            field.copy_from_slice(&at_bound.to_le_bytes()[..size]);
+        }
+    }
+
+    #[test]
+    fn damaged_fields() {
+        let mut random = Random::new(103);
+        let mut by_number = [0; 20];
+        for _ in 0..80_000 {
+            let (program, _) = random_shape(&mut random);
+            let mut bytes = program.sheet();
+            for _ in 0..1 + random.below(3) {
+                damage_a_field(&mut random, &mut bytes);
+            }
+            if !random.one_in(6) {
+                write_checks(&mut bytes);
+            }
+            match compare_any(&mut random, &bytes) {
+                Ok(_) => by_number[0] += 1,
+                Err(refusal) => by_number[refusal.number as usize] += 1,
+            }
+        }
+        // Every question about a sheet's contents has been answered no.
+        assert!(
+            by_number[2..=16].iter().all(|&times| times > 20),
+            "{by_number:?}"
+        );
+    }
+
+    #[test]
+    fn records_and_blocks_out_of_place() {
+        let mut random = Random::new(104);
+        for _ in 0..10_000 {
+            let (program, _) = random_shape(&mut random);
+            let mut bytes = program.sheet();
+            let blocks = bytes.len() / 512;
+            match random.below(4) {
+                // Another record: lines that name later words.
+                0 => {
+                    let block = 512 * (1 + random.below(blocks - 1));
+                    let from = block + 16 * random.below(31);
+                    let to = block + 16 * random.below(31);
+                    bytes.copy_within(from..from + 16, to);
+                }
+                // Another block.
+                1 => {
+                    let (from, to) = (512 * random.below(blocks), 512 * random.below(blocks));
+                    bytes.copy_within(from..from + 512, to);
+                }
+                // One block more or fewer.
+                2 => bytes.resize(512 * (blocks + 1), 0),
+                _ => bytes.truncate(512 * (blocks - 1)),
+            }
+            compare_any(&mut random, &bytes).ok();
+            write_checks(&mut bytes);
+            compare_any(&mut random, &bytes).ok();
+        }
+    }
+
+    #[test]
+    fn any_length() {
+        let mut random = Random::new(105);
+        let (program, _) = random_program(&mut random, 32, 8, 248);
+        let mut bytes = program.sheet();
+        bytes.resize(6000, 0);
+        for length in (0..4700).chain((4700..=6000).step_by(50)) {
+            compare_any(&mut random, &bytes[..length]).ok();
+        }
+        for length in (0..=6144).step_by(512) {
+            bytes.resize(length, 0);
+            write_checks(&mut bytes);
+            compare_any(&mut random, &bytes).ok();
+        }
+    }
+
+    #[test]
+    fn noise() {
+        let mut random = Random::new(106);
+        for _ in 0..3000 {
+            let length = random.pick(&[512, 1024, 1536, 4608, 5120]);
+            let mut bytes: Vec<u8> = (0..length).map(|_| random.next() as u8).collect();
+            // The further into the questions, the better.
+            if random.one_in(2) {
+                bytes[..6].copy_from_slice(&[0x41, 0x52, 0x58, 0x54, 32, 8]);
+            }
+            if random.one_in(2) {
+                bytes[6..8].copy_from_slice(&[(length / 512 * 31 - 31) as u8, 0]);
+                bytes[40..508].fill(0);
+            }
+            if random.one_in(2) {
+                write_checks(&mut bytes);
+            }
+            compare_any(&mut random, &bytes).ok();
+        }
+    }
+}

@@ -1,0 +1,423 @@
+//! What the tests share: random programs with a plain model of their runs, the
+//! calls of the two implementations, and a small generator of random numbers.
+
+// Each test file is compiled with this module and uses a part of it.
+#![allow(dead_code)]
+
+use tablegull::builder::{Line, SheetBuilder};
+use tablegull::{reference, Refusal};
+
+pub type Outcome = Result<usize, Refusal>;
+
+/// The eight calls of one implementation.
+#[derive(Clone, Copy)]
+pub struct Calls {
+    pub name: &'static str,
+    pub read: fn(&[u8]) -> Outcome,
+    pub seal: fn(&mut [u8]) -> Outcome,
+    pub line_report: fn(&[u8], usize, &mut [u8]) -> Outcome,
+    pub report: fn(&[u8], &mut [u8]) -> Outcome,
+    pub totals: fn(&[u8], &mut [u64]) -> Outcome,
+    pub two_runs: fn(&[u8], &[u64], &mut [u64]) -> Outcome,
+    pub clause_counts: fn(&[u8], &mut [u64]) -> Outcome,
+    pub line_clauses: fn(&[u8], usize, &mut [i32]) -> Outcome,
+}
+
+pub const REFERENCE: Calls = Calls {
+    name: "reference",
+    read: reference::read,
+    seal: reference::seal,
+    line_report: reference::line_report,
+    report: reference::report,
+    totals: reference::totals,
+    two_runs: reference::two_runs,
+    clause_counts: reference::clause_counts,
+    line_clauses: reference::line_clauses,
+};
+
+#[cfg(has_archive)]
+pub const ARCHIVE: Calls = Calls {
+    name: "archive",
+    read: tablegull::read,
+    seal: tablegull::seal,
+    line_report: tablegull::line_report,
+    report: tablegull::report,
+    totals: tablegull::totals,
+    two_runs: tablegull::two_runs,
+    clause_counts: tablegull::clause_counts,
+    line_clauses: tablegull::line_clauses,
+};
+
+/// The reference, and the archive where it is there.
+pub fn implementations() -> Vec<Calls> {
+    vec![
+        REFERENCE,
+        #[cfg(has_archive)]
+        ARCHIVE,
+    ]
+}
+
+/// A report as its buffer spells it: name's number, weight, chains, N.
+#[derive(Clone, Copy, Debug, PartialEq, Eq)]
+pub struct Report {
+    pub number: u8,
+    pub weight: u32,
+    pub chains: u16,
+    pub count: u64,
+}
+
+pub const IMPOSSIBLE: Report = Report {
+    number: 0,
+    weight: 0,
+    chains: 0,
+    count: 0,
+};
+
+pub const CERTAIN: Report = Report {
+    number: 1,
+    ..IMPOSSIBLE
+};
+
+pub fn halves(whole_bits: u32) -> Report {
+    Report {
+        number: 2,
+        weight: 16 * whole_bits,
+        ..IMPOSSIBLE
+    }
+}
+
+pub fn counted(count: u64, weight: u32, chains: u16) -> Report {
+    Report {
+        number: 3,
+        weight,
+        chains,
+        count,
+    }
+}
+
+impl Report {
+    pub fn parse(bytes: &[u8]) -> Report {
+        assert_eq!(bytes.len(), 16);
+        assert_eq!(bytes[1], 0);
+        Report {
+            number: bytes[0],
+            chains: u16::from_le_bytes(bytes[2..4].try_into().unwrap()),
+            weight: u32::from_le_bytes(bytes[4..8].try_into().unwrap()),
+            count: u64::from_le_bytes(bytes[8..16].try_into().unwrap()),
+        }
+    }
+}
+
+impl Calls {
+    /// The reports of all lines of an accepted sheet.
+    pub fn reports(&self, sheet: &[u8]) -> Vec<Report> {
+        let mut out = vec![0; 16 * 248];
+        let length = (self.report)(sheet, &mut out).unwrap();
+        out[..length].chunks(16).map(Report::parse).collect()
+    }
+
+    /// One line's clauses, each without its 0.
+    pub fn clauses(&self, sheet: &[u8], line: usize) -> Vec<Vec<i32>> {
+        let mut out = vec![0; 4944];
+        let length = (self.line_clauses)(sheet, line, &mut out).unwrap();
+        assert!(length == 0 || out[length - 1] == 0);
+        let mut clauses: Vec<Vec<i32>> = out[..length]
+            .split(|&number| number == 0)
+            .map(<[i32]>::to_vec)
+            .collect();
+        assert_eq!(clauses.pop(), Some(Vec::new()), "0 follows each clause");
+        clauses
+    }
+
+    /// The clauses of all lines.
+    pub fn joined_clauses(&self, sheet: &[u8]) -> Vec<Vec<i32>> {
+        let lines = (self.read)(sheet).unwrap();
+        (0..lines)
+            .flat_map(|line| self.clauses(sheet, line))
+            .collect()
+    }
+}
+
+/// One line of a program, with its fields open to the tests.
+#[derive(Clone, Copy, Debug)]
+pub struct Step {
+    pub kind: u8,
+    pub amount: u8,
+    pub first: u16,
+    pub second: u16,
+    pub constant: u32,
+    pub difference: u32,
+}
+
+impl Step {
+    pub fn line(&self) -> Line {
+        match self.kind {
+            1 => Line::xor(self.first, self.second, self.difference),
+            2 => Line::xor_constant(self.first, self.constant, self.difference),
+            3 => Line::rotate_left(self.first, self.amount, self.difference),
+            4 => Line::rotate_right(self.first, self.amount, self.difference),
+            5 => Line::add(self.first, self.second, self.difference),
+            6 => Line::add_constant(self.first, self.constant, self.difference),
+            kind => panic!("there is no kind {kind}"),
+        }
+    }
+
+    pub fn is_addition(&self) -> bool {
+        self.kind >= 5
+    }
+
+    /// The two summands of an addition.
+    pub fn summands(&self, words: &[u64]) -> (u64, u64) {
+        let first = words[usize::from(self.first)];
+        match self.kind {
+            5 => (first, words[usize::from(self.second)]),
+            _ => (first, self.constant.into()),
+        }
+    }
+
+    /// The result, written bit by bit or with wide numbers: slow and plain.
+    pub fn result(&self, words: &[u64], width: u32) -> u64 {
+        let first = words[usize::from(self.first)];
+        let amount = u32::from(self.amount);
+        let moved = |places: u32| {
+            (0..width)
+                .map(|bit| (first >> bit & 1) << ((bit + places) % width))
+                .sum()
+        };
+        match self.kind {
+            1 => first ^ words[usize::from(self.second)],
+            2 => first ^ u64::from(self.constant),
+            3 => moved(amount),
+            4 => moved(width - amount),
+            _ => {
+                let (first, second) = self.summands(words);
+                (first + second) % (1 << width)
+            }
+        }
+    }
+}
+
+/// A program with its stated differences.
+#[derive(Clone, Debug)]
+pub struct Program {
+    pub width: u32,
+    pub inputs: Vec<u32>,
+    pub steps: Vec<Step>,
+}
+
+impl Program {
+    /// The sheet, sealed by the tests' own check sums.
+    pub fn sheet(&self) -> Vec<u8> {
+        let mut builder = SheetBuilder::new(self.width as u8, &self.inputs);
+        for step in &self.steps {
+            builder.line(step.line());
+        }
+        let mut bytes = builder.unsealed();
+        write_checks(&mut bytes);
+        bytes
+    }
+
+    pub fn run(&self, start: &[u64]) -> Vec<u64> {
+        let mut words = start.to_vec();
+        for step in &self.steps {
+            let result = step.result(&words, self.width);
+            words.push(result);
+        }
+        words
+    }
+
+    pub fn two_runs(&self, start: &[u64]) -> [Vec<u64>; 2] {
+        let other: Vec<u64> = start
+            .iter()
+            .zip(&self.inputs)
+            .map(|(x, &difference)| x ^ u64::from(difference))
+            .collect();
+        [self.run(start), self.run(&other)]
+    }
+
+    /// The answer of the call for two runs.
+    pub fn two_runs_answer(&self, start: &[u64]) -> [u64; 3] {
+        let [first, second] = self.two_runs(start);
+        let m = self.inputs.len();
+        for (line, step) in self.steps.iter().enumerate() {
+            for bit in 0..self.width {
+                let difference = (first[m + line] ^ second[m + line]) >> bit & 1;
+                if difference != u64::from(step.difference) >> bit & 1 {
+                    return [0, line as u64, bit.into()];
+                }
+            }
+        }
+        [1, 0, 0]
+    }
+
+    pub fn follows(&self, start: &[u64]) -> bool {
+        self.two_runs_answer(start)[0] == 1
+    }
+
+    pub fn variable_count(&self) -> usize {
+        let width = self.width as usize;
+        let additions = self.steps.iter().filter(|step| step.is_addition()).count();
+        width * (self.inputs.len() + self.steps.len()) + 2 * (width - 1) * additions
+    }
+
+    /// The value of every variable, as the two runs from a start give it.
+    pub fn assignment(&self, start: &[u64]) -> Vec<bool> {
+        let runs = self.two_runs(start);
+        let mut values = Vec::with_capacity(self.variable_count());
+        for word in &runs[0] {
+            values.extend((0..self.width).map(|bit| word >> bit & 1 == 1));
+        }
+        for step in self.steps.iter().filter(|step| step.is_addition()) {
+            for words in &runs {
+                let (first, second) = step.summands(words);
+                values.extend((1..self.width).map(|bit| {
+                    let below = 1u64 << bit;
+                    first % below + second % below >= below
+                }));
+            }
+        }
+        values
+    }
+
+    /// States the differences that the two runs from a start have.
+    pub fn state_differences_of(&mut self, start: &[u64]) {
+        let [first, second] = self.two_runs(start);
+        let m = self.inputs.len();
+        for (line, step) in self.steps.iter_mut().enumerate() {
+            step.difference = (first[m + line] ^ second[m + line]) as u32;
+        }
+    }
+
+    /// Random words, as many as the program has inputs.
+    pub fn random_start(&self, random: &mut Random) -> Vec<u64> {
+        self.inputs
+            .iter()
+            .map(|_| random.bits(self.width).into())
+            .collect()
+    }
+}
+
+/// A random program of a given shape with all kinds in it, its differences
+/// those of two runs from the start that comes with it.
+pub fn random_program(
+    random: &mut Random,
+    width: u32,
+    inputs: usize,
+    lines: usize,
+) -> (Program, Vec<u64>) {
+    let inputs = (0..inputs).map(|_| random.difference(width)).collect();
+    let mut program = Program {
+        width,
+        inputs,
+        steps: Vec::new(),
+    };
+    for line in 0..lines {
+        let step = random_step(random, width, program.inputs.len() + line);
+        program.steps.push(step);
+    }
+    let start = program.random_start(random);
+    program.state_differences_of(&start);
+    (program, start)
+}
+
+fn random_step(random: &mut Random, width: u32, words: usize) -> Step {
+    let mut kind = 1 + random.below(6) as u8;
+    if kind == 5 && words == 1 {
+        // One word has no other to be added to.
+        kind = 6;
+    }
+    let first = random.below(words) as u16;
+    let mut second = random.below(words) as u16;
+    while kind == 5 && second == first {
+        second = random.below(words) as u16;
+    }
+    Step {
+        kind,
+        amount: if matches!(kind, 3 | 4) {
+            1 + random.below(width as usize - 1) as u8
+        } else {
+            0
+        },
+        first,
+        second: if matches!(kind, 1 | 5) { second } else { 0 },
+        constant: if matches!(kind, 2 | 6) {
+            random.difference(width)
+        } else {
+            0
+        },
+        difference: 0,
+    }
+}
+
+/// Puts other differences in place of some of the stated ones.
+pub fn disturb(random: &mut Random, program: &mut Program) {
+    let width = program.width;
+    for step in &mut program.steps {
+        match random.below(4) {
+            0 => step.difference = random.difference(width),
+            1 => step.difference ^= 1 << random.below(width as usize),
+            _ => {}
+        }
+    }
+}
+
+/// Writes the checks of all whole blocks, whatever is in them.
+pub fn write_checks(bytes: &mut [u8]) {
+    for (index, block) in bytes.chunks_exact_mut(512).enumerate() {
+        let mut sum = index as u64;
+        for number in block[..508].chunks(4) {
+            sum += u64::from(u32::from_le_bytes(number.try_into().unwrap()));
+        }
+        block[508..].copy_from_slice(&(sum as u32).to_le_bytes());
+    }
+}
+
+/// Steele, Lea and Flood's SplitMix64: small, and the same on every machine.
+pub struct Random(u64);
+
+impl Random {
+    pub fn new(seed: u64) -> Random {
+        Random(seed)
+    }
+
+    pub fn next(&mut self) -> u64 {
+        self.0 = self.0.wrapping_add(0x9e37_79b9_7f4a_7c15);
+        let mut z = self.0;
+        z = (z ^ (z >> 30)).wrapping_mul(0xbf58_476d_1ce4_e5b9);
+        z = (z ^ (z >> 27)).wrapping_mul(0x94d0_49bb_1331_11eb);
+        z ^ (z >> 31)
+    }
+
+    pub fn below(&mut self, bound: usize) -> usize {
+        (self.next() % bound as u64) as usize
+    }
+
+    pub fn one_in(&mut self, many: usize) -> bool {
+        self.below(many) == 0
+    }
+
+    /// A word of `width` bits.
+    pub fn bits(&mut self, width: u32) -> u32 {
+        (self.next() >> 32) as u32 >> (32 - width)
+    }
+
+    /// A word of `width` bits as differences and constants are: often with few
+    /// ones, so that there are long quiet stretches, at times 0, the top bit or
+    /// all ones.
+    pub fn difference(&mut self, width: u32) -> u32 {
+        let all = u32::MAX >> (32 - width);
+        match self.below(12) {
+            0 => 0,
+            1 => all,
+            2 => 1 << (width - 1),
+            3..=5 => 1 << self.below(width as usize),
+            6..=8 => self.bits(width) & self.bits(width) & self.bits(width),
+            9 => all >> self.below(width as usize),
+            _ => self.bits(width),
+        }
+    }
+
+    pub fn pick<T: Copy>(&mut self, from: &[T]) -> T {
+        from[self.below(from.len())]
+    }
+}

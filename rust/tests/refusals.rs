@@ -1,0 +1,295 @@
+//! Every question is asked, in its order, and a refused call changes nothing.
+
+mod common;
+
+use common::{implementations, write_checks};
+use tablegull::builder::{Line, SheetBuilder};
+use tablegull::Refusal;
+
+/// 33 lines of all kinds at n = 20: a full line block and one with two lines.
+fn sheet() -> Vec<u8> {
+    let mut sheet = SheetBuilder::new(20, &[1, 2, 3]);
+    for _ in 0..5 {
+        sheet.line(Line::xor(0, 1, 3));
+        sheet.line(Line::xor_constant(0, 5, 1));
+        sheet.line(Line::rotate_left(1, 19, 1));
+        sheet.line(Line::rotate_right(1, 1, 1));
+        sheet.line(Line::add(0, 1, 3));
+        sheet.line(Line::add_constant(0, 7, 1));
+    }
+    for _ in 0..3 {
+        sheet.line(Line::xor(0, 0, 0));
+    }
+    let mut bytes = sheet.unsealed();
+    write_checks(&mut bytes);
+    bytes
+}
+
+/// Where a line's record starts.
+fn record(line: usize) -> usize {
+    512 * (1 + line / 31) + 16 * (line % 31)
+}
+
+/// A byte's place, the byte to put there, and the refusal that follows.
+type Damage = (usize, u8, u32, u32);
+
+/// In the order of the questions: of several of these in one sheet, the one
+/// that stands first here is the refusal.
+fn damages() -> Vec<Damage> {
+    vec![
+        (0, 0x40, 3, 0),
+        (1, 0, 3, 0),
+        (2, 0, 3, 0),
+        (3, 0x55, 3, 0),
+        (4, 33, 4, 0),
+        (5, 9, 5, 0),
+        (7, 1, 6, 0),
+        (8 + 2, 0x10, 7, 0),
+        (8 + 4 * 3, 1, 7, 0),
+        (39, 0x80, 7, 0),
+        (40, 1, 8, 0),
+        (507, 1, 8, 0),
+        (record(0), 0, 9, 0),
+        (record(0) + 2, 3, 10, 0),
+        (record(0) + 4, 3, 10, 0),
+        (record(0) + 14, 0x10, 14, 0),
+        (record(0) + 1, 1, 15, 0),
+        (record(0) + 7, 1, 15, 0),
+        (record(0) + 8, 1, 15, 0),
+        (record(1), 7, 9, 1),
+        (record(1) + 3, 1, 10, 1),
+        (record(1) + 10, 0x10, 13, 1),
+        (record(1) + 15, 1, 14, 1),
+        (record(1) + 1, 1, 15, 1),
+        (record(1) + 4, 1, 15, 1),
+        (record(1) + 6, 1, 15, 1),
+        (record(2) + 2, 5, 10, 2),
+        (record(2) + 1, 20, 12, 2),
+        (record(2) + 5, 1, 15, 2),
+        (record(2) + 11, 1, 15, 2),
+        (record(3) + 1, 0, 12, 3),
+        (record(3) + 14, 0x10, 14, 3),
+        (record(3) + 8, 1, 15, 3),
+        (record(4) + 4, 7, 10, 4),
+        (record(4) + 4, 0, 11, 4),
+        (record(4) + 1, 1, 15, 4),
+        (record(4) + 9, 1, 15, 4),
+        (record(5) + 2, 8, 10, 5),
+        (record(5) + 11, 1, 13, 5),
+        (record(5) + 1, 1, 15, 5),
+        (record(5) + 4, 1, 15, 5),
+        (record(30), 0xff, 9, 30),
+        (record(32), 9, 9, 32),
+        (record(32) + 4, 35, 10, 32),
+        (512 + 496, 1, 16, 1),
+        (512 + 507, 1, 16, 1),
+        (record(33), 1, 16, 2),
+        (record(61) + 15, 1, 16, 2),
+        (1024 + 496, 1, 16, 2),
+        (1024 + 507, 0x80, 16, 2),
+    ]
+}
+
+#[test]
+fn each_question_has_its_number_and_place() {
+    for calls in implementations() {
+        assert_eq!((calls.read)(&sheet()), Ok(33));
+        for (at, byte, number, place) in damages() {
+            let mut bytes = sheet();
+            assert_ne!(bytes[at], byte);
+            bytes[at] = byte;
+            let refused = Err(Refusal { number, place });
+            let block = (at / 512) as u32;
+            let wrong_check = Err(Refusal {
+                number: 2,
+                place: block,
+            });
+            let name = calls.name;
+            assert_eq!((calls.read)(&bytes), wrong_check, "{name}, byte {at}");
+
+            let before = bytes.clone();
+            assert_eq!((calls.seal)(&mut bytes), refused, "{name}, byte {at}");
+            assert_eq!(bytes, before, "{name}, byte {at}");
+
+            write_checks(&mut bytes);
+            assert_eq!((calls.read)(&bytes), refused, "{name}, byte {at}");
+        }
+    }
+}
+
+#[test]
+fn of_two_refusals_the_first_is_given() {
+    let damages = damages();
+    assert!(
+        damages.is_sorted_by_key(|&(_, _, number, place)| match number {
+            ..9 => (0, 0, number),
+            9..16 => (1, place, number),
+            _ => (2, place, number),
+        })
+    );
+    for calls in implementations() {
+        for (index, &(at, byte, number, place)) in damages.iter().enumerate() {
+            for &(later_at, later_byte, ..) in &damages[index + 1..] {
+                // In one place there is room for one of the two.
+                if later_at == at {
+                    continue;
+                }
+                let mut bytes = sheet();
+                bytes[at] = byte;
+                bytes[later_at] = later_byte;
+                write_checks(&mut bytes);
+                assert_eq!(
+                    (calls.read)(&bytes),
+                    Err(Refusal { number, place }),
+                    "{}, bytes {at} and {later_at}",
+                    calls.name
+                );
+            }
+        }
+    }
+}
+
+#[test]
+fn wrong_checks_are_placed_at_the_first_block() {
+    for calls in implementations() {
+        for block in 0..3 {
+            for at in 508..512 {
+                let mut bytes = sheet();
+                for later in block..3 {
+                    bytes[512 * later + at] ^= 0x40;
+                }
+                let refused = Err(Refusal {
+                    number: 2,
+                    place: block as u32,
+                });
+                assert_eq!((calls.read)(&bytes), refused, "{}", calls.name);
+                assert_eq!((calls.seal)(&mut bytes), Ok(3), "{}", calls.name);
+                assert_eq!(bytes, sheet(), "{}", calls.name);
+            }
+        }
+    }
+}
+
+#[test]
+fn a_check_counts_its_block() {
+    // Two line blocks that are all alike but for their checks.
+    let mut builder = SheetBuilder::new(8, &[0]);
+    for _ in 0..62 {
+        builder.line(Line::xor(0, 0, 0));
+    }
+    let mut bytes = builder.unsealed();
+    write_checks(&mut bytes);
+    let (first, second) = (bytes[512..1024].to_vec(), bytes[1024..].to_vec());
+    assert_ne!(first, second);
+    for calls in implementations() {
+        assert_eq!((calls.read)(&bytes), Ok(62));
+        let mut swapped = bytes.clone();
+        swapped[512..1024].copy_from_slice(&second);
+        swapped[1024..].copy_from_slice(&first);
+        let refused = Err(Refusal {
+            number: 2,
+            place: 1,
+        });
+        assert_eq!((calls.read)(&swapped), refused, "{}", calls.name);
+    }
+}
+
+#[test]
+fn questions_about_a_call_come_after_the_sheet() {
+    let good = sheet();
+    let mut bad = sheet();
+    bad[record(32)] = 0;
+    write_checks(&mut bad);
+    let refused = |number, place| Err(Refusal { number, place });
+    for calls in implementations() {
+        let (report, clauses) = (calls.line_report, calls.line_clauses);
+        assert_eq!(report(&bad, 33, &mut []), refused(9, 32));
+        assert_eq!(report(&good, 33, &mut []), refused(17, 0));
+        assert_eq!(report(&good, usize::MAX, &mut [0; 16]), refused(17, 0));
+        assert_eq!(report(&good, 32, &mut [0; 15]), refused(18, 0));
+        assert_eq!(report(&good, 32, &mut [0; 16]), Ok(16));
+
+        assert_eq!(clauses(&bad, 33, &mut []), refused(9, 32));
+        assert_eq!(clauses(&good, 33, &mut []), refused(17, 0));
+        assert_eq!(clauses(&good, 1 << 32, &mut [0; 4944]), refused(17, 0));
+        assert_eq!(clauses(&good, 32, &mut []), refused(18, 0));
+
+        assert_eq!((calls.report)(&bad, &mut []), refused(9, 32));
+        assert_eq!((calls.report)(&good, &mut [0; 33 * 16 - 1]), refused(18, 0));
+        assert_eq!((calls.report)(&good, &mut [0; 33 * 16]), Ok(33 * 16));
+
+        assert_eq!((calls.totals)(&bad, &mut []), refused(9, 32));
+        assert_eq!((calls.totals)(&good, &mut [0; 2]), refused(18, 0));
+
+        assert_eq!((calls.clause_counts)(&bad, &mut []), refused(9, 32));
+        assert_eq!((calls.clause_counts)(&good, &mut [0; 1]), refused(18, 0));
+
+        let runs = calls.two_runs;
+        assert_eq!(runs(&bad, &[], &mut []), refused(9, 32));
+        assert_eq!(runs(&good, &[], &mut [0; 2]), refused(18, 0));
+        assert_eq!(runs(&good, &[0; 2], &mut [0; 3]), refused(19, 0));
+        assert_eq!(runs(&good, &[0; 4], &mut [0; 3]), refused(19, 0));
+        assert_eq!(runs(&good, &[0, 0, 1 << 20], &mut [0; 3]), refused(19, 0));
+        assert_eq!(runs(&good, &[1 << 32, 0, 0], &mut [0; 3]), refused(19, 0));
+        assert_eq!(runs(&good, &[0, 0, (1 << 20) - 1], &mut [0; 3]), Ok(3));
+    }
+}
+
+#[test]
+fn every_line_measures_its_own_need() {
+    let good = sheet();
+    // n = 20: kinds 1 to 6 as the outputs' rows give them, worked out by hand.
+    let needs = [640, 240, 240, 240, 3024, 1208];
+    for calls in implementations() {
+        for (line, need) in needs.into_iter().enumerate() {
+            let mut out = vec![7; need + 1];
+            let short = (calls.line_clauses)(&good, line, &mut out[..need - 1]);
+            let refused = Err(Refusal {
+                number: 18,
+                place: 0,
+            });
+            assert_eq!(short, refused, "{}, line {line}", calls.name);
+            assert!(out.iter().all(|&number| number == 7));
+            assert_eq!(
+                (calls.line_clauses)(&good, line, &mut out),
+                Ok(need),
+                "{}, line {line}",
+                calls.name
+            );
+            assert_eq!(out[need], 7);
+        }
+    }
+}
+
+#[test]
+fn the_builder_hands_refusals_on() {
+    let one_line = |width, inputs: &[u32], line| {
+        let mut sheet = SheetBuilder::new(width, inputs);
+        sheet.line(line);
+        sheet.seal().map_err(|refusal| refusal.number)
+    };
+    let quiet = Line::xor(0, 0, 0);
+    assert_eq!(one_line(1, &[0], quiet), Err(4));
+    assert_eq!(one_line(8, &[], quiet), Err(5));
+    assert_eq!(one_line(8, &[0; 9], quiet), Err(5));
+    assert_eq!(one_line(8, &[0; 257], quiet), Err(5));
+    assert_eq!(one_line(8, &[256], quiet), Err(7));
+    assert_eq!(one_line(8, &[0], Line::xor(0, 1, 0)), Err(10));
+    assert_eq!(one_line(8, &[0], Line::add(0, 0, 0)), Err(11));
+    assert_eq!(one_line(8, &[0], Line::rotate_left(0, 8, 0)), Err(12));
+    assert_eq!(one_line(8, &[0], Line::rotate_right(0, 0, 0)), Err(12));
+    assert_eq!(one_line(8, &[0], Line::add_constant(0, 256, 0)), Err(13));
+    assert_eq!(one_line(8, &[0], Line::xor_constant(0, 0, 256)), Err(14));
+
+    let with_lines = |lines| {
+        let mut sheet = SheetBuilder::new(8, &[0]);
+        for _ in 0..lines {
+            sheet.line(quiet);
+        }
+        sheet.seal().map_err(|refusal| refusal.number)
+    };
+    assert_eq!(with_lines(0), Err(1));
+    assert!(with_lines(248).is_ok());
+    assert_eq!(with_lines(249), Err(1));
+    assert_eq!(with_lines(65_536 + 31), Err(1));
+}
