@@ -29,6 +29,7 @@ module _ (d : Differential) where
     number-most = omega arith;
     words-number = λ _. inl refl;
     constant-number = λ _. inl refl;
+    linear-number = λ _ _. inl refl;
   }
 
   -- a report with another number, where something fits
@@ -51,6 +52,7 @@ module _ (d : Differential) where
     number-most = omega arith;
     words-number = λ f. absurd (other-kind q addWords e (λ n. omega arith) f);
     constant-number = λ f. absurd (other-kind q addConstant e (λ n. omega arith) f);
+    linear-number = λ _ _. inr refl;
   }
     where
       word : 0 < 2 ^ d .width
@@ -70,6 +72,7 @@ module _ (d : Differential) where
     number-most = omega arith;
     words-number = λ _. inr refl;
     constant-number = λ f. absurd (other-kind addWords addConstant e (λ n. omega arith) f);
+    linear-number = λ n _. absurd (n e);
   }
 
   pub counted-right : kindOf (d .line .kind) ≡ addConstant
@@ -87,4 +90,5 @@ module _ (d : Differential) where
     number-most = omega arith;
     words-number = λ f. absurd (other-kind addConstant addWords e (λ n. omega arith) f);
     constant-number = λ _. inr refl;
+    linear-number = λ _ n. absurd (n e);
   }

@@ -1,7 +1,7 @@
 -- Demand 2 for one line: what a report says of the operand values that fit.
 use Prim.Native.Nat.{ℕ, _+_, _-_, _*_, _^_, _<_, _≤_}
 use mathlib.Core.Path.{_≡_}
-use mathlib.Core.Logic.{_↔_, _⊎_}
+use mathlib.Core.Logic.{_↔_, _⊎_, _≢_}
 use mathlib.Core.Bool.{true, false}
 use Rattle.trail.specs.WellFormed.{WellFormedLine}
 use Rattle.trail.specs.Kinds.{kindOf}
@@ -33,7 +33,8 @@ pub record HalvesRight (n pairs weight : ℕ) : Type 0 where
   pub pairs-fit : pairs ≡ 2 ^ (2 * n - bits)
 
 -- Impossible exactly when no operand values with the stated differences give the stated result difference; certain only when all
--- do; halves and counted as above. Adding two words is never certain or counted, adding a constant never certain or halves.
+-- do; halves and counted as above. Adding two words is never certain or counted, adding a constant never certain or halves; kinds 1
+-- to 4 are certain or impossible.
 pub record RightReport (d : Differential) (r : Report) : Type 0 where
   pub impossible-exactly : (r .number ≡ 0) ↔ ((x y : ℕ) → x < 2 ^ d .width → y < 2 ^ d .width → fits d x y ≡ false)
   pub certain-fits : r .number ≡ 1 → (x y : ℕ) → x < 2 ^ d .width → y < 2 ^ d .width → fits d x y ≡ true
@@ -43,6 +44,7 @@ pub record RightReport (d : Differential) (r : Report) : Type 0 where
   pub number-most : r .number ≤ 3
   pub words-number : kindOf (d .line .kind) ≡ addWords → (r .number ≡ 0) ⊎ (r .number ≡ 2)
   pub constant-number : kindOf (d .line .kind) ≡ addConstant → (r .number ≡ 0) ⊎ (r .number ≡ 3)
+  pub linear-number : kindOf (d .line .kind) ≢ addWords → kindOf (d .line .kind) ≢ addConstant → (r .number ≡ 0) ⊎ (r .number ≡ 1)
 
 -- Demand 2 for every line by itself
 abbrev pub EveryReportIsRight : Type 0
