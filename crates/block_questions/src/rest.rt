@@ -7,10 +7,10 @@ ghost use Rattle.sheet.specs.Asking.{verdict};
 ghost use Rattle.sheet.specs.Questions.{recordRest, blockRest, restQuestion};
 ghost use Rattle.sheet.specs.Answers.{readingMeans};
 ghost use Rattle.sheet.specs.Facts.{Whole};
-use fields::tests::zero_bytes;
 use sheet::Header;
 use sheet::Reading;
 use sheet::refused;
+use sheet_fields::predicates::zero_bytes;
 
 // Whether record j of line block 1 + i is a line's or zero.
 fn record_rest(s: &[u8], header: Header, i: usize, j: usize) -> bool

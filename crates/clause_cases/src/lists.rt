@@ -5,10 +5,10 @@ use crate::print::put_written;
 use crate::sheets::SHEET_BYTES;
 use clauses::ListAnswer;
 use clauses::line_list;
+use text::bounded::put_number;
+use text::bounded::put_text;
 use text::parse::number;
 use text::parse::take_sheet;
-use text::print::put_number;
-use text::print::put_text;
 
 // The longest list of a case; the most of any list is 4,944.
 const MOST_NUMBERS: usize = 1024;

@@ -22,9 +22,9 @@ use crate::pairs::run_pairs;
 use crate::starts::run_start;
 use crate::whole::run_whole;
 use libc::STDIN_FILENO;
+use text::bounded::put_text;
+use text::bounded::write_first;
 use text::parse::find;
-use text::print::put_text;
-use text::print::write_first;
 
 // Room for all cases, and for all answers.
 const CASES_BYTES: usize = 131072;

@@ -8,9 +8,9 @@ use crate::sheets::SHEET_BYTES;
 use clauses::CountsAnswer;
 use clauses::clause_counts;
 use sheet::Reading;
+use text::bounded::put_number;
+use text::bounded::put_text;
 use text::parse::take_sheet;
-use text::print::put_number;
-use text::print::put_text;
 
 // Answers a case `SHEET`.
 pub fn run_pairs(line: &[u8], from: usize, out: &mut [u8], at: usize) -> usize {

@@ -3,9 +3,9 @@ use clauses::Counts;
 use clauses::ListAnswer;
 use runs::RunsAnswer;
 use sheet::Refusal;
-use text::print::put_number;
-use text::print::put_refused;
-use text::print::put_text;
+use text::bounded::put_number;
+use text::bounded::put_refused;
+use text::bounded::put_text;
 use text::signs::magnitude;
 
 // A refusal of any call.

@@ -2,9 +2,9 @@
 use crate::print::put_runs;
 use crate::sheets::SHEET_BYTES;
 use runs::two_runs;
+use text::bounded::put_text;
 use text::parse::number;
 use text::parse::take_sheet;
-use text::print::put_text;
 
 // More words than any sheet has inputs.
 const MOST_WORDS: usize = 16;

@@ -8,9 +8,9 @@ use clauses::ListAnswer;
 use clauses::clause_counts;
 use clauses::line_list;
 use std::num::wrapping_add_u64;
+use text::bounded::put_number;
 use text::checksum::with_number;
 use text::parse::take_sheet;
-use text::print::put_number;
 
 // The lines of the longest sheet, and the numbers of the longest list.
 const MOST_LINES: usize = 248;

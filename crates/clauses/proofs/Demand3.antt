@@ -8,10 +8,10 @@ use Rattle.trail.specs.Trail.{Trail, lineCount}
 use Rattle.trail.specs.Runs.{isStart, follows}
 use Rattle.trail.specs.WellFormed.{WellFormed}
 use Rattle.cnf.specs.Formulas.{variable, satisfies}
-use Rattle.encoding.specs.Lists.{joined}
-use Rattle.encoding.specs.Assignments.{spelled}
-use Rattle.encoding.specs.Pairing.{IsAssignment, SatisfiedExactly, MapsInverse, EquallyMany, NamesVariables, EndsInZero}
-use Rattle.encoding.proofs.Demand3.{every-trail-pairs}
+use Rattle.clause_lists.specs.Lists.{joined}
+use Rattle.clause_lists.specs.Assignments.{spelled}
+use Rattle.clause_lists.specs.Pairing.{IsAssignment, SatisfiedExactly, MapsInverse, EquallyMany, NamesVariables, EndsInZero}
+use Rattle.clause_lists.proofs.Demand3.{every-trail-pairs}
 use Rattle.sheet.specs.Fields.{trailOf}
 use Rattle.sheet.specs.Answers.{IsAccepted}
 use Rattle.sheet.specs.declared.Mode.the-variants.{Read}

@@ -10,14 +10,14 @@ use Rattle.buffers.specs.Overwrite.{overwrite}
 use Rattle.trail.specs.declared.Line.{Line}
 use Rattle.trail.specs.Kinds.{kindOf}
 use Rattle.trail.specs.Trail.{lineAt}
-use Rattle.encoding.specs.Sizes.{numbersAs}
-use Rattle.encoding.specs.Lists.{lineList}
-use Rattle.encoding.proofs.Lengths.{line-list-length}
+use Rattle.clause_lists.specs.Sizes.{numbersAs}
+use Rattle.clause_lists.specs.Lists.{lineList}
+use Rattle.clause_lists.proofs.Lengths.{line-list-length}
 use Rattle.sheet.specs.declared.Header.{Header}
 use Rattle.sheet.specs.Asking.{verdict}
 use Rattle.sheet.specs.Asking.Verdict.{accepted, refused}
 use Rattle.sheet.specs.Fields.{trailOf}
-use Rattle.sheet.specs.Facts.{Read}
+use Rattle.sheet.specs.Facts.{SheetRead}
 use Rattle.sheet.proofs.Asking.{no-verdict, yes-verdict}
 use Rattle.sheet.proofs.WellFormed.{read-width, read-lines, read-well-formed}
 use Rattle.clauses.specs.Answers.{listAsks, listCall}
@@ -42,7 +42,7 @@ module _ (s : List ℕ) (k : ℕ) (out : List ℤ) where
   )
 
 -- the need, as the code measures it
-pub need-is : (s : List ℕ) (h : Header) → Read s h → (k : ℕ) → k < h .lines → {l : Line} {need : ℕ} → l ≡ lineAt (trailOf s) k
+pub need-is : (s : List ℕ) (h : Header) → SheetRead s h → (k : ℕ) → k < h .lines → {l : Line} {need : ℕ} → l ≡ lineAt (trailOf s) k
     → need ≡ numbersAs (kindOf (l .kind)) (h .width) → need ≡ length (lineList (trailOf s) k)
 need-is s h read k less e d =
     d

@@ -10,8 +10,8 @@ use Rattle.buffers.proofs.Overwrite.{overwrite-length, overwrite-twice}
 use Rattle.trail.specs.Trail.{Trail}
 use Rattle.cnf.specs.Formulas.{numbers}
 use Rattle.cnf.proofs.Clauses.{numbers-append}
-use Rattle.encoding.specs.Variables.Run.{firstRun, secondRun}
-use Rattle.encoding.specs.Lists.{clausesIn, lineClauses, lineList}
+use Rattle.clause_lists.specs.Variables.Run.{firstRun, secondRun}
+use Rattle.clause_lists.specs.Lists.{clausesIn, lineClauses, lineList}
 
 pub list-parts : (t : Trail) (k : ℕ) → lineList t k ≡ numbers (clausesIn t firstRun k) ++ numbers (clausesIn t secondRun k)
 unfolding lineList lineClauses

@@ -5,10 +5,10 @@ use Rattle.words.specs.Below.{concat}
 use Rattle.trail.specs.Trail.{Trail, lineCount}
 use Rattle.cnf.specs.Formulas.{clausesOf, numbers}
 use Rattle.cnf.proofs.Clauses.{Nonzero, every-in-concat, numbers-concat, clauses-numbers}
-use Rattle.encoding.specs.Lists.{lineClauses, lineList, joined, clauseCount}
-use Rattle.encoding.proofs.BothRuns.{nonzero-line}
+use Rattle.clause_lists.specs.Lists.{lineClauses, lineList, joined, clauseCount}
+use Rattle.clause_lists.proofs.BothRuns.{nonzero-line}
 use Rattle.words.proofs.Below.{length-concat}
-use Rattle.encoding.proofs.Limits.{variables-most, clauses-count-most, line-list-most}
+use Rattle.clause_lists.proofs.Limits.{variables-most, clauses-count-most, line-list-most}
 use Rattle.sheet.specs.Fields.{trailOf}
 use Rattle.sheet.specs.declared.Mode.the-variants.{Read}
 use Rattle.sheet.proofs.WellFormed.{accepted-well-formed, accepted-sized}

@@ -17,17 +17,17 @@ use Rattle.trail.specs.Trail.{Trail, inputCount, lineAt, differenceAt}
 use Rattle.trail.proofs.Differences.{difference-line}
 use Rattle.cnf.specs.Gates.{Input, gate}
 use Rattle.cnf.specs.Gates.Input.{literal, known}
-use Rattle.encoding.specs.Kinds.{isAddition, carryInput, inputsAs, parity, twoOrMore}
-use Rattle.encoding.specs.Variables.{Run, bitVariable, variablesBefore, carryVariable, bitLiteral, carryLiteral}
-use Rattle.encoding.specs.Variables.Run.{firstRun, secondRun}
-use Rattle.encoding.specs.Lists.{inputs, bitClauses, runClauses, clausesIn}
+use Rattle.clause_lists.specs.Kinds.{isAddition, carryInput, inputsAs, parity, twoOrMore}
+use Rattle.clause_lists.specs.Variables.{Run, bitVariable, variablesBefore, carryVariable, bitLiteral, carryLiteral}
+use Rattle.clause_lists.specs.Variables.Run.{firstRun, secondRun}
+use Rattle.clause_lists.specs.Lists.{inputs, bitClauses, runClauses, clausesIn}
 use Rattle.sheet.specs.declared.Header.{Header}
 use Rattle.sheet.specs.Fields.{trailOf}
-use Rattle.sheet.specs.Facts.{Read}
+use Rattle.sheet.specs.Facts.{SheetRead}
 use Rattle.sheet.proofs.WellFormed.{read-width, read-inputs, read-limited, line-at-right}
-use Rattle.run_clauses.specs.declared.LineRun.{LineRun}
-use Rattle.run_clauses.specs.Writing.{signedLiteral, differenceIn, wordIn, carryIn, clausesOfRun, ProperRun}
-use Rattle.run_clauses.proofs.RunLiterals.{made-signed, first-signed, second-signed}
+use Rattle.clause_writer.specs.declared.LineRun.{LineRun}
+use Rattle.clause_writer.specs.Writing.{signedLiteral, differenceIn, wordIn, carryIn, clausesOfRun, ProperRun}
+use Rattle.clause_writer.proofs.RunLiterals.{made-signed, first-signed, second-signed}
 use Rattle.clauses.proofs.SheetCounts.{before-most}
 
 -- ---- a run's clauses depend on the literals of the words that its line names, and of its carries
@@ -76,7 +76,7 @@ unsigned false false = refl
 zero-bit : (i : ℕ) → bit 0 i ≡ false
 zero-bit i = bit-xor 0 0 i ∙ xor-self (bit 0 i)
 
-module _ (s : List ℕ) (h : Header) (read : Read s h) (k : ℕ) (less : k < h .lines) where
+module _ (s : List ℕ) (h : Header) (read : SheetRead s h) (k : ℕ) (less : k < h .lines) where
   abbrev t : Trail
   t = trailOf s
 

@@ -14,15 +14,15 @@ use Rattle.words.proofs.Below.{count-le}
 use Rattle.trail.specs.declared.Line.{Line}
 use Rattle.trail.specs.Kinds.{kindOf}
 use Rattle.trail.specs.Trail.{Trail, inputCount, lineCount, lineAt}
-use Rattle.encoding.specs.Variables.{adds, variablesBefore, variables}
-use Rattle.encoding.specs.Lists.{lineClauses, clauseCount}
-use Rattle.encoding.specs.Sizes.{clausesAs, numbersAs}
-use Rattle.encoding.proofs.Lengths.{line-clauses-length}
-use Rattle.encoding.proofs.Limits.{clauses-count-most}
+use Rattle.clause_lists.specs.Variables.{adds, variablesBefore, variables}
+use Rattle.clause_lists.specs.Lists.{lineClauses, clauseCount}
+use Rattle.clause_lists.specs.Sizes.{clausesAs, numbersAs}
+use Rattle.clause_lists.proofs.Lengths.{line-clauses-length}
+use Rattle.clause_lists.proofs.Limits.{clauses-count-most}
 use Rattle.sheet.specs.declared.Header.{Header}
-use Rattle.sheet.specs.declared.Mode.the-variants.{Read as reading}
+use Rattle.sheet.specs.declared.Mode.the-variants.{Read}
 use Rattle.sheet.specs.Fields.{trailOf}
-use Rattle.sheet.specs.Facts.{Read}
+use Rattle.sheet.specs.Facts.{SheetRead}
 use Rattle.sheet.proofs.WellFormed.{accepted-sized, read-width, read-inputs, read-lines, read-limited, read-well-formed}
 use Rattle.clauses.specs.declared.Counts.{Counts}
 use Rattle.clauses.specs.Answers.{countsOf}
@@ -52,7 +52,7 @@ total-upto f i n h = le-ind (λ m. total i f ≤ total m f) (omega arith) (λ m 
 
 -- ---- of a sheet that was read
 
-module _ (s : List ℕ) (h : Header) (read : Read s h) where
+module _ (s : List ℕ) (h : Header) (read : SheetRead s h) where
   -- the variables before line k: 32 * 256 of words at most, and 62 of carries for each line
   pub variables-are : (k found : ℕ) → found ≡ count k (adds (trailOf s))
       → h .width * (h .inputs + h .lines) + 2 * (h .width - 1) * found ≡ variablesBefore (trailOf s) k
@@ -93,7 +93,7 @@ module _ (s : List ℕ) (h : Header) (read : Read s h) where
       omega (
         arith,
         total-upto (λ i. length (lineClauses (trailOf s) i)) k (lineCount (trailOf s)) (omega (arith, read-lines s h read)),
-        clauses-count-most (read-well-formed s h read) (accepted-sized reading s (read .accepted)),
+        clauses-count-most (read-well-formed s h read) (accepted-sized Read s (read .accepted)),
       )
 
   pub clauses-all : (k : ℕ) {sum : ℕ} → k ≡ h .lines → sum ≡ total k (λ i. length (lineClauses (trailOf s) i))

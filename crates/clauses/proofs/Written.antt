@@ -13,7 +13,7 @@ use Rattle.words.proofs.Below.{concat-cong}
 use Rattle.buffers.specs.Overwrite.{overwrite}
 use Rattle.buffers.proofs.Overwrite.{take-overwrite}
 use Rattle.trail.specs.Trail.{lineCount}
-use Rattle.encoding.specs.Lists.{lineList, joined}
+use Rattle.clause_lists.specs.Lists.{lineList, joined}
 use Rattle.sheet.specs.Asking.{allYes, verdict}
 use Rattle.sheet.specs.Asking.Verdict.{accepted}
 use Rattle.sheet.specs.Fields.{headerOf, trailOf}

@@ -11,8 +11,8 @@ use Rattle.sheet.specs.Fields.{headerOf, trailOf}
 use Rattle.sheet.specs.Questions.{questions, lineNumberQuestions, roomQuestions}
 use Rattle.sheet.specs.declared.Mode.the-variants.{Read}
 use Rattle.trail.specs.Trail.{Trail}
-use Rattle.encoding.specs.Variables.{variables}
-use Rattle.encoding.specs.Lists.{lineList, clauseCount}
+use Rattle.clause_lists.specs.Variables.{variables}
+use Rattle.clause_lists.specs.Lists.{lineList, clauseCount}
 use Rattle.clauses.specs.declared.Counts.{Counts}
 use Rattle.clauses.specs.declared.CountsAnswer.{CountsAnswer}
 use Rattle.clauses.specs.declared.CountsAnswer.the-variants as counts

@@ -9,9 +9,9 @@ use Rattle.words.specs.Below.{concat}
 use Rattle.trail.specs.Trail.{Trail, lineCount}
 use Rattle.trail.specs.Runs.{isStart, follows}
 use Rattle.cnf.specs.Formulas.{variable, clausesOf, satisfies}
-use Rattle.encoding.specs.Variables.{variables}
-use Rattle.encoding.specs.Lists.{lineList, clauseCount}
-use Rattle.encoding.specs.Pairing.{IsAssignment, SatisfiedExactly, MapsInverse, EquallyMany, NamesVariables, EndsInZero}
+use Rattle.clause_lists.specs.Variables.{variables}
+use Rattle.clause_lists.specs.Lists.{lineList, clauseCount}
+use Rattle.clause_lists.specs.Pairing.{IsAssignment, SatisfiedExactly, MapsInverse, EquallyMany, NamesVariables, EndsInZero}
 use Rattle.sheet.specs.Asking.{Verdict}
 use Rattle.sheet.specs.Asking.Verdict.{accepted, refused}
 use Rattle.sheet.specs.Fields.{trailOf}

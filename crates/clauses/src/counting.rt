@@ -3,17 +3,17 @@ ghost use mathlib.Core.Path.{_≡_};
 ghost use Prim.Native.Nat.{_≤_};
 ghost use Rattle.words.specs.Below.{count};
 ghost use Rattle.trail.specs.Trail.{lineCount};
-ghost use Rattle.encoding.specs.Variables.{adds, variablesBefore};
-ghost use Rattle.encoding.specs.Lists.{clauseCount};
+ghost use Rattle.clause_lists.specs.Variables.{adds, variablesBefore};
+ghost use Rattle.clause_lists.specs.Lists.{clauseCount};
 ghost use Rattle.sheet.specs.Fields.{trailOf};
-ghost use Rattle.sheet.specs.Facts.{Read};
+ghost use Rattle.sheet.specs.Facts.{SheetRead};
 use crate::sizes::clauses_in_list;
-use fields::lines::line_at;
 use sheet::Header;
+use sheet_fields::lines::line_at;
 
 // The variables of the words and of the carries of the addition lines before line k.
 pub(crate) fn variables_before(sheet: &[u8], header: Header, k: usize) -> u32
-    requires { ⌜ Read (now sheet) header × (k ≤ header .lines) ⌝ }
+    requires { ⌜ SheetRead (now sheet) header × (k ≤ header .lines) ⌝ }
     ensures { λ r. ⌜ r ≡ variablesBefore (trailOf (now (sheet .entry))) k ⌝ }
 {
     let n = header.width;
@@ -23,7 +23,7 @@ pub(crate) fn variables_before(sheet: &[u8], header: Header, k: usize) -> u32
 
 // How many of the lines before line k are additions.
 fn additions_before(sheet: &[u8], header: Header, k: usize) -> u32
-    requires { ⌜ Read (now sheet) header × (k ≤ header .lines) ⌝ }
+    requires { ⌜ SheetRead (now sheet) header × (k ≤ header .lines) ⌝ }
     ensures { λ r. ⌜ r ≡ count k (adds (trailOf (now (sheet .entry)))) ⌝ }
 {
     let mut found = 0u32;
@@ -43,7 +43,7 @@ fn additions_before(sheet: &[u8], header: Header, k: usize) -> u32
 
 // The clauses of all lines.
 pub(crate) fn clauses_of_lines(sheet: &[u8], header: Header) -> u32
-    requires { ⌜ Read (now sheet) header ⌝ }
+    requires { ⌜ SheetRead (now sheet) header ⌝ }
     ensures { λ r. ⌜ r ≡ clauseCount (trailOf (now (sheet .entry))) ⌝ }
 {
     let lines = header.lines;

@@ -13,11 +13,11 @@ use crate::counting::clauses_of_lines;
 use crate::counting::variables_before;
 use crate::lines::put_line;
 use crate::sizes::numbers_in_list;
-use fields::lines::line_at;
 use reading::read;
 use sheet::Reading;
 use sheet::Refusal;
 use sheet::refusal_of;
+use sheet_fields::lines::line_at;
 
 // A sheet's variables and the clauses of all its lines.
 pub struct Counts {

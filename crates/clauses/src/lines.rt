@@ -4,22 +4,22 @@ ghost use Prim.Native.Nat.{_+_, _<_, _≤_};
 ghost use lib.ListN.{length};
 ghost use Rattle.buffers.specs.Overwrite.{overwrite};
 ghost use Rattle.cnf.specs.Formulas.{numbers};
-ghost use Rattle.encoding.specs.Lists.{clausesIn, lineList};
-ghost use Rattle.encoding.specs.Variables.{variablesBefore};
-ghost use Rattle.encoding.specs.Variables.Run.{firstRun, secondRun};
+ghost use Rattle.clause_lists.specs.Lists.{clausesIn, lineList};
+ghost use Rattle.clause_lists.specs.Variables.{variablesBefore};
+ghost use Rattle.clause_lists.specs.Variables.Run.{firstRun, secondRun};
 ghost use Rattle.sheet.specs.Fields.{trailOf};
-ghost use Rattle.sheet.specs.Facts.{Read};
-ghost use Rattle.run_clauses.specs.Writing.{ProperRun, clausesOfRun};
+ghost use Rattle.sheet.specs.Facts.{SheetRead};
+ghost use Rattle.clause_writer.specs.Writing.{ProperRun, clausesOfRun};
 use crate::counting::variables_before;
-use fields::lines::difference_at;
-use fields::lines::line_at;
-use run_clauses::LineRun;
-use run_clauses::put_run;
+use clause_writer::LineRun;
+use clause_writer::put_run;
 use sheet::Header;
+use sheet_fields::lines::difference_at;
+use sheet_fields::lines::line_at;
 
 // Writes the list of line k from the buffer's start.
 pub(crate) fn put_line(sheet: &[u8], header: Header, k: usize, out: &mut [i32])
-    requires { ⌜ Read (now sheet) header × (k < header .lines) × (length (lineList (trailOf (now sheet)) k) ≤ length (now out)) ⌝ }
+    requires { ⌜ SheetRead (now sheet) header × (k < header .lines) × (length (lineList (trailOf (now sheet)) k) ≤ length (now out)) ⌝ }
     ensures { λ _. ⌜ now (out .exit) ≡ overwrite 0 (lineList (trailOf (now (sheet .entry))) k) (now (out .entry)) ⌝ }
 {
     let before = variables_before(sheet, header, k);
@@ -29,7 +29,7 @@ pub(crate) fn put_line(sheet: &[u8], header: Header, k: usize, out: &mut [i32])
 
 // The first run of line k, which has `before` variables before its carries: no literal is negated.
 fn first_run(sheet: &[u8], header: Header, k: usize, before: u32) -> LineRun
-    requires { ⌜ Read (now sheet) header × (k < header .lines) × (before ≡ variablesBefore (trailOf (now sheet)) k) ⌝ }
+    requires { ⌜ SheetRead (now sheet) header × (k < header .lines) × (before ≡ variablesBefore (trailOf (now sheet)) k) ⌝ }
     ensures { λ r. ⌜ ProperRun r × (clausesOfRun r ≡ clausesIn (trailOf (now (sheet .entry))) firstRun k) ⌝ }
 {
     LineRun {
@@ -45,7 +45,7 @@ fn first_run(sheet: &[u8], header: Header, k: usize, before: u32) -> LineRun
 
 // The second run: the ones of a word's difference negate its literals, and its carries are its own.
 fn second_run(sheet: &[u8], header: Header, k: usize, before: u32) -> LineRun
-    requires { ⌜ Read (now sheet) header × (k < header .lines) × (before ≡ variablesBefore (trailOf (now sheet)) k) ⌝ }
+    requires { ⌜ SheetRead (now sheet) header × (k < header .lines) × (before ≡ variablesBefore (trailOf (now sheet)) k) ⌝ }
     ensures { λ r. ⌜ ProperRun r × (clausesOfRun r ≡ clausesIn (trailOf (now (sheet .entry))) secondRun k) ⌝ }
 {
     let line = line_at(sheet, header, k);

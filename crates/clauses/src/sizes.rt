@@ -2,7 +2,7 @@
 ghost use mathlib.Core.Path.{_≡_};
 ghost use Prim.Native.Nat.{_≤_};
 ghost use Rattle.trail.specs.Kinds.{kindOf};
-ghost use Rattle.encoding.specs.Sizes.{clausesAs, numbersAs};
+ghost use Rattle.clause_lists.specs.Sizes.{clausesAs, numbersAs};
 
 // The clauses of a line. A gate of k literals beside its output has 2^k.
 pub(crate) fn clauses_in_list(kind: u32, n: u32) -> u32

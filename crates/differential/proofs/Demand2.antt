@@ -12,7 +12,7 @@ use Rattle.words.proofs.Below.{count-zero→none}
 use Rattle.words.proofs.Pairs.{pairs-zero→none}
 use Rattle.trail.specs.Kinds.{Kind, kindOf}
 use Rattle.trail.specs.Kinds.Kind.{xorWords, xorConstant, rotatesLeft, rotatesRight, addWords, addConstant, unknown}
-use Rattle.trail.proofs.KindNumbers.{numberOf}
+use Rattle.trail.proofs.KindNumbers.{kindNumber}
 use Rattle.differential.specs.declared.Differential.{Differential}
 use Rattle.differential.specs.Fits.{fits, fitting, fittingPairs}
 use Rattle.differential.specs.TwoWords.{wordsImpossible, wordsWeight}
@@ -29,7 +29,7 @@ use Rattle.differential.proofs.RightReports.{impossible-right, certain-
 
 module _ (d : Differential) (proper : Proper d) where
   -- kinds 1 to 4
-  linear-right : (q : Kind) → kindOf (d .line .kind) ≡ q → numberOf q < 5 → (g : ℕ) → Linear d g
+  linear-right : (q : Kind) → kindOf (d .line .kind) ≡ q → kindNumber q < 5 → (g : ℕ) → Linear d g
       → RightReport d (certainIf (d .line .difference) g)
   linear-right q e few g linear = at (ℕ-discrete (d .line .difference) g)
     where
@@ -92,7 +92,7 @@ pub every-report-is-right : EveryReportIsRight
 unfolding reportOf reportAs
 every-report-is-right d proper = at (kindOf (d .line .kind)) refl
   where
-    linear : (q : Kind) → kindOf (d .line .kind) ≡ q → numberOf q < 5 → (g : ℕ) → Linear d g
+    linear : (q : Kind) → kindOf (d .line .kind) ≡ q → kindNumber q < 5 → (g : ℕ) → Linear d g
         → RightReport d (certainIf (d .line .difference) g)
     linear = linear-right d proper
 

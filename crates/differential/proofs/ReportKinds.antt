@@ -6,7 +6,7 @@ use Prim.Native.Nat.{_^_, _<_, _≤_}
 use native.Mathlib.Omega.{arith}
 use Rattle.trail.specs.Kinds.{Kind, kindOf, usesAmount}
 use Rattle.trail.specs.Kinds.Kind.{xorWords, xorConstant, rotatesLeft, rotatesRight, addWords, addConstant, unknown}
-use Rattle.trail.proofs.KindNumbers.{numberOf, kind-of, by-number}
+use Rattle.trail.proofs.KindNumbers.{kindNumber, kind-of, by-number}
 use Rattle.differential.specs.declared.Differential.{Differential}
 use Rattle.differential.specs.Constant.{constantFitting}
 use Rattle.differential.specs.Report.{impossible, certainIf, wordsReport, constantReport, givenAs, givenDifference, reportAs, reportOf}
@@ -14,12 +14,12 @@ use Rattle.differential.specs.Demand2.{Proper}
 use Rattle.differential.proofs.Formula.{fitting-constant}
 
 module _ (d : Differential) where
-  pub given-by : (q : Kind) → d .line .kind ≡ numberOf q → givenDifference d ≡ givenAs q d
+  pub given-by : (q : Kind) → d .line .kind ≡ kindNumber q → givenDifference d ≡ givenAs q d
   unfolding givenDifference
   given-by q e = ap (λ (z : Kind). givenAs z d) (kind-of q e)
 
   -- what the code of a rotation asks
-  pub rotates : (q : Kind) → usesAmount q ≡ true → d .line .kind ≡ numberOf q → Proper d → d .width ≤ 32
+  pub rotates : (q : Kind) → usesAmount q ≡ true → d .line .kind ≡ kindNumber q → Proper d → d .width ≤ 32
       → (d .width ≤ 64) × (1 ≤ d .line .amount) × (d .line .amount < d .width) × (d .first < 2 ^ d .width)
   rotates q uses e proper most =
       (omega arith, proper .line-right .amount-least used, proper .line-right .amount-most used, proper .first-word)
@@ -35,7 +35,7 @@ module _ (d : Differential) where
       by-number (λ q. q ≢ unknown → reportAs q d ≡ certainIf (d .line .difference) (givenAs q d))
       (d .line .kind) (λ h. absurd (h refl)) at known
     where
-      at : (q : Kind) → d .line .kind ≡ numberOf q → q ≢ unknown
+      at : (q : Kind) → d .line .kind ≡ kindNumber q → q ≢ unknown
           → reportAs q d ≡ certainIf (d .line .difference) (givenAs q d)
       at xorWords e h = refl
       at xorConstant e h = refl

@@ -9,7 +9,7 @@ use Rattle.words.proofs.Below.{count-none}
 use Rattle.words.proofs.Pairs.{pairs-none}
 use Rattle.trail.specs.Kinds.{Kind, kindOf}
 use Rattle.trail.specs.Kinds.Kind.{addWords, addConstant}
-use Rattle.trail.proofs.KindNumbers.{numberOf}
+use Rattle.trail.proofs.KindNumbers.{kindNumber}
 use Rattle.differential.specs.declared.Differential.{Differential}
 use Rattle.differential.specs.Fits.{fits, fitting, fittingPairs}
 use Rattle.differential.specs.Report.{impossible, certain, halves, counted}
@@ -37,10 +37,10 @@ module _ (d : Differential) where
   possible other some = (λ e. absurd (other e), λ none. absurd (some none))
 
   -- kinds are told apart by their numbers
-  other-kind : (q r : Kind) → kindOf (d .line .kind) ≡ q → numberOf q ≢ numberOf r → kindOf (d .line .kind) ≢ r
-  other-kind q r e n f = n (ap numberOf (sym e ∙ f))
+  other-kind : (q r : Kind) → kindOf (d .line .kind) ≡ q → kindNumber q ≢ kindNumber r → kindOf (d .line .kind) ≢ r
+  other-kind q r e n f = n (ap kindNumber (sym e ∙ f))
 
-  pub certain-right : (q : Kind) → kindOf (d .line .kind) ≡ q → numberOf q < 5
+  pub certain-right : (q : Kind) → kindOf (d .line .kind) ≡ q → kindNumber q < 5
       → ((x y : ℕ) → x < 2 ^ d .width → y < 2 ^ d .width → fits d x y ≡ true)
       → RightReport d certain
   certain-right q e few all = record {

@@ -7,12 +7,12 @@ ghost use Rattle.sheet.specs.Asking.{verdict};
 ghost use Rattle.sheet.specs.Questions.{marked as Questions·marked, linesRight, inputRight, headerQuestions};
 ghost use Rattle.sheet.specs.Answers.{readingMeans};
 ghost use Rattle.sheet.specs.Facts.{Whole};
-use fields::input_difference;
-use fields::tests::within;
-use fields::tests::zero_bytes;
 use sheet::Header;
 use sheet::Reading;
 use sheet::refused;
+use sheet_fields::input_difference;
+use sheet_fields::predicates::within;
+use sheet_fields::predicates::zero_bytes;
 use words::is_word;
 
 // Whether the four mark bytes are there.

@@ -8,13 +8,13 @@ ghost use Rattle.sheet.specs.Asking.{verdict};
 ghost use Rattle.sheet.specs.Questions.{operandsEarlier, operandsDiffer, amountRight, constantRight, unusedZero, recordQuestions, lineQuestions};
 ghost use Rattle.sheet.specs.Answers.{readingMeans};
 ghost use Rattle.sheet.specs.Facts.{Whole, Limited};
-use fields::record_of;
-use fields::tests::within;
 use sheet::Header;
 use sheet::Mode;
 use sheet::Reading;
 use sheet::Record;
 use sheet::refused;
+use sheet_fields::predicates::within;
+use sheet_fields::record_of;
 use words::is_word;
 
 // Whether each operand that the kind uses names a word before the given one.

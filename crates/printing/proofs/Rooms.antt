@@ -12,7 +12,7 @@ use Rattle.sheet.specs.Questions.{questions, lineNumberQuestions, roomQuestions
 use Rattle.sheet.specs.declared.Mode.the-variants.{Read}
 use Rattle.sheet.proofs.Asking.{yes-right, yes-verdict}
 use Rattle.sheet.proofs.Calling.{enough-room}
-use Rattle.encoding.specs.Lists.{lineList}
+use Rattle.clause_lists.specs.Lists.{lineList}
 use Rattle.report_buffer.specs.Buffer.{bytesNeeded}
 use Rattle.report_buffer.specs.Answers.{bufferMeans}
 use Rattle.report_buffer.specs.declared.BufferAnswer.{BufferAnswer}

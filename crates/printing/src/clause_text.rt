@@ -6,11 +6,11 @@ use clauses::CountsAnswer;
 use clauses::ListAnswer;
 use clauses::clause_counts;
 use clauses::line_list;
-use text::output::OUTPUT_BYTES;
-use text::output::put_byte;
-use text::output::put_number;
-use text::output::put_signed;
-use text::output::put_text;
+use text::stream::OUTPUT_BYTES;
+use text::stream::put_byte;
+use text::stream::put_number;
+use text::stream::put_signed;
+use text::stream::put_text;
 
 // The most lines that a sheet has, and the numbers of the longest list of one.
 const MOST_LINES: usize = 248;

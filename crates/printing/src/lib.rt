@@ -6,8 +6,8 @@ mod report_text;
 ghost use Prim.Native.Nat.{_≤_};
 use crate::clause_text::put_clauses;
 use crate::report_text::put_report;
-use text::output::OUTPUT_BYTES;
-use text::output::write_out;
+use text::stream::OUTPUT_BYTES;
+use text::stream::write_out;
 
 // Prints the report of every line and the totals, or the refusal.
 pub fn print_report(sheet: &[u8]) {

@@ -1,9 +1,9 @@
 // A refusal as the programs print it.
 ghost use Prim.Native.Nat.{_≤_};
 use sheet::Refusal;
-use text::output::OUTPUT_BYTES;
-use text::output::put_byte;
-use text::output::put_number;
+use text::stream::OUTPUT_BYTES;
+use text::stream::put_byte;
+use text::stream::put_number;
 
 // `refused NUMBER PLACE`, and the line's end.
 pub(crate) fn put_refusal(out: &mut [u8; OUTPUT_BYTES], at: usize, refusal: Refusal) -> usize

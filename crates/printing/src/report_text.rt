@@ -10,11 +10,11 @@ use report::TotalsAnswer;
 use report::sheet_totals;
 use report_buffer::BufferAnswer;
 use report_buffer::write_reports;
-use text::output::OUTPUT_BYTES;
-use text::output::put_byte;
-use text::output::put_decimal;
-use text::output::put_number;
-use text::output::put_text;
+use text::stream::OUTPUT_BYTES;
+use text::stream::put_byte;
+use text::stream::put_decimal;
+use text::stream::put_number;
+use text::stream::put_text;
 
 // The bytes of a line's report.
 const REPORT_BYTES: usize = 16;

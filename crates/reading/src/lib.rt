@@ -8,14 +8,14 @@ ghost use Rattle.sheet.specs.Facts.{Whole};
 ghost use Rattle.sheet.specs.declared.Mode.the-variants.{Read};
 use block_questions::checks::check_stage;
 use block_questions::rest::rest_stage;
-use fields::header_of;
-use fields::tests::within;
 use header_questions::header_stage;
 use line_questions::lines_stage;
 use sheet::Header;
 use sheet::Mode;
 use sheet::Reading;
 use sheet::refused;
+use sheet_fields::header_of;
+use sheet_fields::predicates::within;
 
 // Asks all questions of a sheet: its parts, or the first question whose answer is no.
 pub fn read(sheet: &[u8]) -> Reading

@@ -2,7 +2,7 @@
 ghost use mathlib.Core.Path.{_≡_};
 ghost use Prim.Native.Nat.{_<_, _≤_, _^_};
 ghost use Rattle.sheet.specs.Fields.{trailOf};
-ghost use Rattle.sheet.specs.Facts.{Read};
+ghost use Rattle.sheet.specs.Facts.{SheetRead};
 ghost use Rattle.differential.specs.Report.{reportMeans};
 ghost use Rattle.report.specs.Lines.{lineReport};
 ghost use Rattle.report.specs.Totals.{sumsOf, sheetTotals, withReport, SmallReport};
@@ -11,14 +11,14 @@ use differential::Differential;
 use differential::LineReport;
 use differential::Sixteenths;
 use differential::in_sixteenths;
-use fields::lines::difference_at;
-use fields::lines::line_at;
 use line_reports::report;
 use sheet::Header;
+use sheet_fields::lines::difference_at;
+use sheet_fields::lines::line_at;
 
 // The report of line k.
 pub fn report_at(sheet: &[u8], header: Header, k: usize) -> LineReport
-    requires { ⌜ Read (now sheet) header × (k < header .lines) ⌝ }
+    requires { ⌜ SheetRead (now sheet) header × (k < header .lines) ⌝ }
     ensures { λ r. ⌜ reportMeans r ≡ lineReport (trailOf (now (sheet .entry))) k ⌝ }
 {
     let line = line_at(sheet, header, k);
@@ -34,7 +34,7 @@ pub fn report_at(sheet: &[u8], header: Header, k: usize) -> LineReport
 
 // The totals of all lines.
 pub(crate) fn sum_reports(sheet: &[u8], header: Header) -> Totals
-    requires { ⌜ Read (now sheet) header ⌝ }
+    requires { ⌜ SheetRead (now sheet) header ⌝ }
     ensures { λ r. ⌜ sumsOf r ≡ sheetTotals (trailOf (now (sheet .entry))) ⌝ }
 {
     let lines = header.lines;

@@ -6,7 +6,7 @@ ghost use lib.ListN.{length};
 ghost use Rattle.buffers.specs.Overwrite.{overwrite};
 ghost use Rattle.sheet.specs.Asking.{verdict};
 ghost use Rattle.sheet.specs.Fields.{headerOf, trailOf};
-ghost use Rattle.sheet.specs.Facts.{Read};
+ghost use Rattle.sheet.specs.Facts.{SheetRead};
 ghost use Rattle.differential.specs.Report.{Report, reportMeans};
 ghost use Rattle.report.specs.Totals.{SmallReport};
 ghost use Rattle.report_buffer.specs.Buffer.{reportBytes, fieldBytes, sheetBytes, bytesNeeded};
@@ -51,7 +51,7 @@ pub fn write_reports(sheet: &[u8], out: &mut [u8]) -> BufferAnswer
 
 // Writes the reports of all lines.
 fn put_reports(sheet: &[u8], header: Header, out: &mut [u8])
-    requires { ⌜ Read (now sheet) header × (16 * header .lines ≤ length (now out)) ⌝ }
+    requires { ⌜ SheetRead (now sheet) header × (16 * header .lines ≤ length (now out)) ⌝ }
     ensures { λ _. ⌜ now (out .exit) ≡ overwrite 0 (sheetBytes (trailOf (now (sheet .entry)))) (now (out .entry)) ⌝ }
 {
     let lines = header.lines;

@@ -9,8 +9,8 @@ use crate::tally::put_tally;
 use crate::tally::with_outcome;
 use brute_force::count::largest;
 use differential::Differential;
+use text::bounded::put_text;
 use text::parse::number;
-use text::print::put_text;
 
 // Answers a case `KIND WIDTH`.
 pub fn run_every(line: &[u8], from: usize, out: &mut [u8], at: usize) -> usize {

@@ -18,9 +18,9 @@ use crate::every::run_every;
 use crate::one::run_one;
 use crate::whole::run_sheet;
 use libc::STDIN_FILENO;
+use text::bounded::put_text;
+use text::bounded::write_first;
 use text::parse::find;
-use text::print::put_text;
-use text::print::write_first;
 
 // Room for all cases, and for all answers.
 const TEXT_BYTES: usize = 262144;

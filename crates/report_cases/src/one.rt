@@ -10,9 +10,9 @@ use differential::Differential;
 use differential::LineReport;
 use report::LineAnswer;
 use sheet::Refusal;
+use text::bounded::put_number;
+use text::bounded::put_text;
 use text::parse::number;
-use text::print::put_number;
-use text::print::put_text;
 
 // The report, the number of operand values that fit, and whether the two agree; or that there is no report, or that there
 // are too many operand values to count.

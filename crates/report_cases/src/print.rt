@@ -5,9 +5,9 @@ use report::LineAnswer;
 use report::TotalsAnswer;
 use report_buffer::BufferAnswer;
 use sheet::Refusal;
-use text::print::put_number;
-use text::print::put_refused;
-use text::print::put_text;
+use text::bounded::put_number;
+use text::bounded::put_refused;
+use text::bounded::put_text;
 
 // A report as ` NAME WEIGHT CHAINS N`.
 pub fn put_report(out: &mut [u8], at: usize, report: LineReport) -> usize {

@@ -4,8 +4,8 @@ use crate::rows::Row;
 use crate::rows::row_of;
 use differential::LineReport;
 use std::num::wrapping_add_u64;
+use text::bounded::put_number;
 use text::checksum::with_number;
-use text::print::put_number;
 
 // How many there were, how many impossible, how many not as the count says; the sums of their numbers, modulo 2^64; and a
 // checksum of all numbers in their order.

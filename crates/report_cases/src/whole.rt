@@ -4,11 +4,11 @@ use crate::print::put_line;
 use crate::print::put_totals;
 use crate::print::put_written;
 use sheet::Reading;
+use text::bounded::put_bytes;
+use text::bounded::put_number;
+use text::bounded::put_text;
 use text::parse::fill;
 use text::parse::number;
-use text::print::put_bytes;
-use text::print::put_number;
-use text::print::put_text;
 
 // Room for a sheet, and for its report buffer.
 const SHEET_BYTES: usize = 5120;

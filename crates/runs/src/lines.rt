@@ -10,21 +10,21 @@ ghost use Rattle.trail.specs.WellFormed.{WellFormedLine};
 ghost use Rattle.trail.specs.Runs.{wordOfLine, isStart};
 ghost use Rattle.sheet.specs.Asking.Verdict.{accepted};
 ghost use Rattle.sheet.specs.Fields.{trailOf};
-ghost use Rattle.sheet.specs.Facts.{Read};
+ghost use Rattle.sheet.specs.Facts.{SheetRead};
 ghost use Rattle.runs.specs.Outcome.{outcome};
 ghost use Rattle.runs.specs.Answers.{runsMeans};
 ghost use Rattle.runs.specs.Facts.{Holds, withLine};
 use crate::RunsAnswer;
 use crate::Words;
 use crate::start::begin;
-use fields::lines::line_at;
 use sheet::Header;
+use sheet_fields::lines::line_at;
 use trail::Line;
 use trail::word_made;
 
 // Both runs, up to the first line, and in it the lowest bit, where the differences disagree.
 pub(crate) fn run_lines(sheet: &[u8], header: Header, start: &[u64]) -> RunsAnswer
-    requires { ⌜ Read (now sheet) header × (isStart (trailOf (now sheet)) (now start) ≡ true) ⌝ }
+    requires { ⌜ SheetRead (now sheet) header × (isStart (trailOf (now sheet)) (now start) ≡ true) ⌝ }
     ensures { λ r. ⌜ runsMeans r ≡ accepted (outcome (trailOf (now (sheet .entry))) (now (start .entry))) ⌝ }
 {
     let mut first = [0u64; 256];
@@ -51,7 +51,7 @@ pub(crate) fn run_lines(sheet: &[u8], header: Header, start: &[u64]) -> RunsAnsw
 
 // Makes line k's word in both runs. The answer has a 1 in each bit where the results' difference is not the stated one.
 fn run_line(sheet: &[u8], header: Header, k: usize, first: &mut Words, second: &mut Words) -> u64
-    requires { ⌜ Read (now sheet) header × (k < header .lines) × Holds (header .width) (header .inputs + k) (now first) × Holds (header .width) (header .inputs + k) (now second) ⌝ }
+    requires { ⌜ SheetRead (now sheet) header × (k < header .lines) × Holds (header .width) (header .inputs + k) (now first) × Holds (header .width) (header .inputs + k) (now second) ⌝ }
     ensures { λ r. ⌜ (now (first .exit) ≡ withLine (trailOf (now (sheet .entry))) k (now (first .entry))) × (now (second .exit) ≡ withLine (trailOf (now (sheet .entry))) k (now (second .entry))) × (r ≡ bitXor (bitXor (wordOfLine (trailOf (now (sheet .entry))) k (now (first .entry))) (wordOfLine (trailOf (now (sheet .entry))) k (now (second .entry)))) (lineAt (trailOf (now (sheet .entry))) k .difference)) ⌝ }
 {
     let line = line_at(sheet, header, k);

@@ -5,11 +5,11 @@ ghost use lib.ListN.{length};
 ghost use Rattle.trail.specs.Trail.{Trail, inputCount};
 ghost use Rattle.trail.specs.Runs.{isStart, partner};
 ghost use Rattle.sheet.specs.Fields.{trailOf};
-ghost use Rattle.sheet.specs.Facts.{Read, Limited};
+ghost use Rattle.sheet.specs.Facts.{SheetRead, Limited};
 ghost use Rattle.runs.specs.Facts.{Made};
 use crate::Words;
-use fields::lines::difference_at;
 use sheet::Header;
+use sheet_fields::lines::difference_at;
 
 // Whether there are exactly m starting words, each below 2^n: a starting value of every trail with these numbers.
 pub(crate) fn is_start(header: Header, start: &[u64]) -> bool
@@ -38,7 +38,7 @@ pub(crate) fn begin(
     first: &mut Words,
     second: &mut Words,
 )
-    requires { ⌜ Read (now sheet) header × (isStart (trailOf (now sheet)) (now start) ≡ true) × (length (now first) ≡ 256) × (length (now second) ≡ 256) ⌝ }
+    requires { ⌜ SheetRead (now sheet) header × (isStart (trailOf (now sheet)) (now start) ≡ true) × (length (now first) ≡ 256) × (length (now second) ≡ 256) ⌝ }
     ensures { λ _. ⌜ Made (trailOf (now (sheet .entry))) (now (start .entry)) (header .inputs) (now (first .exit)) × Made (trailOf (now (sheet .entry))) (partner (trailOf (now (sheet .entry))) (now (start .entry))) (header .inputs) (now (second .exit)) ⌝ }
 {
     let inputs = header.inputs;

@@ -16,15 +16,15 @@ use Rattle.trail.specs.Kinds.{Kind, kindOf, usesSecond, usesAmount, usesConstan
 use Rattle.trail.specs.Kinds.Kind.{addWords}
 use Rattle.trail.specs.Trail.{inputCount, lineCount, lineAt}
 use Rattle.trail.specs.WellFormed.{WellFormedLine, WellFormed, Sized}
-use Rattle.trail.proofs.KindNumbers.{numberOf, known, number-of}
+use Rattle.trail.proofs.KindNumbers.{kindNumber, known, number-of}
 use Rattle.sheet.specs.Asking.{allYes}
 use Rattle.sheet.specs.Fields.{headerOf, inputDifference, recordOf, lineOf, trailOf}
 use Rattle.sheet.specs.Questions.{within, lengthQuestions, checkQuestions, inputRight, headerQuestions, operandsEarlier, operandsDiffer, amountRight, constantRight, unusedZero, recordQuestions, lineQuestions, laterQuestions, questions}
-use Rattle.sheet.specs.Facts.{Whole, Limited, Read}
+use Rattle.sheet.specs.Facts.{Whole, Limited, SheetRead}
 use Rattle.sheet.specs.declared.Header.{Header}
 use Rattle.sheet.specs.declared.Record.{Record}
 use Rattle.sheet.specs.declared.Mode.{Mode}
-use Rattle.sheet.specs.declared.Mode.the-variants.{Read as reading}
+use Rattle.sheet.specs.declared.Mode.the-variants.{Read}
 use Rattle.sheet.proofs.TrailParts.{trail-inputs, trail-lines, trail-input, trail-line}
 use Rattle.sheet.proofs.Asking.{yes-left, yes-right, yes-at}
 use Rattle.sheet.proofs.Settled.{apart, whole, headed, limited}
@@ -44,7 +44,7 @@ unasked false t e d = e
 -- kind 5 is the addition of two words
 differs : (k x y : ℕ) → (not (eqb k 5) || not (eqb x y)) ≡ true → kindOf k ≡ addWords → x ≢ y
 differs k x y e u f =
-    let five : eqb k 5 ≡ true = eq-eqb k 5 (number-of addWords k (λ v. omega (arith, ap numberOf v)) u) in
+    let five : eqb k 5 ≡ true = eq-eqb k 5 (number-of addWords k (λ v. omega (arith, ap kindNumber v)) u) in
     let same : eqb x y ≡ true = eq-eqb x y f in
     false≢true (rw (five, same) at e)
 
@@ -137,7 +137,7 @@ module _ (mode : Mode) (s : List ℕ) (e : allYes (questions mode s) ≡ true) w
 
 -- ---- the sheet that reading accepted, by the parts that it gave
 
-module _ (s : List ℕ) (h : Header) (read : Read s h) where
+module _ (s : List ℕ) (h : Header) (read : SheetRead s h) where
   pub read-width : trailOf s .width ≡ h .width
   unfolding trailOf
   read-width = ap (λ (p : Header). p .width) (read .parts)
@@ -149,10 +149,10 @@ module _ (s : List ℕ) (h : Header) (read : Read s h) where
   read-lines = trail-lines s ∙ ap (λ (p : Header). p .lines) (read .parts)
 
   pub read-limited : Limited h
-  read-limited = subst Limited (read .parts) (accepted-limited reading s (read .accepted))
+  read-limited = subst Limited (read .parts) (accepted-limited Read s (read .accepted))
 
   pub read-well-formed : WellFormed (trailOf s)
-  read-well-formed = accepted-well-formed reading s (read .accepted)
+  read-well-formed = accepted-well-formed Read s (read .accepted)
 
   pub line-at-right : (k : ℕ) → k < h .lines → {l : Line} → l ≡ lineAt (trailOf s) k → WellFormedLine (h .width) (h .inputs + k) l
   line-at-right k less e =

@@ -25,6 +25,6 @@ pub record Limited (h : Header) : Type 0 where
   pub enough : h .blocks ≡ 1 + (h .lines + 30) / 31
 
 -- what reading an accepted sheet settles
-pub record Read (s : List ℕ) (h : Header) : Type 0 where
+pub record SheetRead (s : List ℕ) (h : Header) : Type 0 where
   pub accepted : IsAccepted s
   pub parts : headerOf s ≡ h

@@ -10,11 +10,11 @@ ghost use lib.ListN.{length};
 use crate::print::put_answer;
 use crate::print::put_changes;
 use libc::STDIN_FILENO;
+use text::bounded::put_text;
+use text::bounded::write_first;
 use text::parse::fill;
 use text::parse::find;
 use text::parse::number;
-use text::print::put_text;
-use text::print::write_first;
 
 // Room for all cases, and for all answers.
 const TEXT_BYTES: usize = 262144;

@@ -2,9 +2,9 @@
 ghost use mathlib.Core.Path.{_≡_};
 ghost use lib.ListN.{length};
 use sheet::Reading;
-use text::print::put_number;
-use text::print::put_refused;
-use text::print::put_text;
+use text::bounded::put_number;
+use text::bounded::put_refused;
+use text::bounded::put_text;
 
 // An answer of reading or sealing after a text: ` accepted BLOCKS WIDTH INPUTS LINES` or ` refused NUMBER PLACE`.
 pub fn put_answer(out: &mut [u8], at: usize, before: &[u8], answer: Reading) -> usize {

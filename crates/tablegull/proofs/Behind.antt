@@ -8,7 +8,7 @@ use lib.ListN.{length}
 use lib.IntN.{ℤ}
 use Rattle.buffers.specs.Overwrite.{overwrite}
 use Rattle.trail.specs.Trail.{lineCount}
-use Rattle.encoding.specs.Lists.{lineList}
+use Rattle.clause_lists.specs.Lists.{lineList}
 use Rattle.sheet.specs.Asking.{Question, allYes, verdict}
 use Rattle.sheet.specs.Asking.Verdict.{accepted, refused}
 use Rattle.sheet.specs.Fields.{headerOf, trailOf}
@@ -27,10 +27,10 @@ use Rattle.report_buffer.specs.Answers.{bufferAsks, bufferAfter}
 use Rattle.report_buffer.proofs.ReportBytes.{length-fields, length-reports}
 use Rattle.runs.specs.Outcome.{Outcome, outcome}
 use Rattle.runs.specs.Outcome.Outcome.{followed, disagree}
-use Rattle.runs.specs.Answers.{runsAsks as callAsks}
+use Rattle.runs.specs.Answers.{outcomeAsks as callAsks}
 use Rattle.clauses.specs.Answers.{listAsks, listCall}
 use Rattle.tablegull.specs.Answers.{answerOf, Writes}
-use Rattle.tablegull.specs.Calls.{lineReportAsks, lineReportBytes, runsAsks, outcomeNumbers}
+use Rattle.tablegull.specs.Calls.{lineReportAsks, lineReportBytes, outcomeAsks, outcomeNumbers}
 use Rattle.tablegull.specs.declared.TablegullAnswer.{TablegullAnswer}
 use Rattle.tablegull.proofs.Answering.{same-refusal, room-yes, between, yes-between}
 use Rattle.tablegull.proofs.Writing.{writes-refused, writes-given}
@@ -102,18 +102,18 @@ result s x = outcome (trailOf s) x
 
 module _ (s x out : List ℕ) (long : 3 ≤ length out) {after : List ℕ} {r : TablegullAnswer} where
   pub runs-refused : {n p : ℕ} → verdict (callAsks s x) (result s x) ≡ refused n p → r ≡ answerOf (refused n p) → after ≡ out
-      → Writes (runsAsks s x out) (outcomeNumbers (result s x)) out after r
+      → Writes (outcomeAsks s x out) (outcomeNumbers (result s x)) out after r
   runs-refused e d k =
-      writes-refused (runsAsks s x out) (outcomeNumbers (result s x)) out
+      writes-refused (outcomeAsks s x out) (outcomeNumbers (result s x)) out
       (between (questions Read s) (roomQuestions 3 (length out)) (startQuestions (trailOf s) x) (length (outcomeNumbers (result s x))) (room-yes 3 (length out) long)
       ∙ same-refusal (callAsks s x) (result s x) (length (outcomeNumbers (result s x))) e)
       d k
 
   pub runs-written : {o : Outcome} → verdict (callAsks s x) (result s x) ≡ accepted o → r ≡ answerOf (accepted 3)
-      → after ≡ overwrite 0 (outcomeNumbers o) out → Writes (runsAsks s x out) (outcomeNumbers (result s x)) out after r
+      → after ≡ overwrite 0 (outcomeNumbers o) out → Writes (outcomeAsks s x out) (outcomeNumbers (result s x)) out after r
   runs-written {o} e d k =
       let given = yes-verdict (callAsks s x) (result s x) o e in
-      writes-given (runsAsks s x out) (outcomeNumbers (result s x)) out
+      writes-given (outcomeAsks s x out) (outcomeNumbers (result s x)) out
       (yes-between (questions Read s) (roomQuestions 3 (length out)) (startQuestions (trailOf s) x) (room-yes 3 (length out) long) (given .0))
       (d ∙ ap (λ n. answerOf (accepted n)) (sym (three (result s x))))
       (k ∙ ap (λ (z : Outcome). overwrite 0 (outcomeNumbers z) out) (sym (given .1)))

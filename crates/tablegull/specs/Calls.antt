@@ -32,8 +32,8 @@ abbrev pub totalsNumbers : Sums → List ℕ
 totalsNumbers t = t .impossible ∷ t .weight ∷ t .chains ∷ []
 
 -- two runs: 18 for three numbers, then 19
-abbrev pub runsAsks : List ℕ → List ℕ → List ℕ → List Question
-runsAsks s x out = questions Read s ++ (roomQuestions 3 (length out) ++ startQuestions (trailOf s) x)
+abbrev pub outcomeAsks : List ℕ → List ℕ → List ℕ → List Question
+outcomeAsks s x out = questions Read s ++ (roomQuestions 3 (length out) ++ startQuestions (trailOf s) x)
 
 -- 1, 0, 0 where they follow; else 0, the first line, and in it the lowest bit, where the differences disagree
 abbrev pub outcomeNumbers : Outcome → List ℕ

@@ -1,6 +1,6 @@
 // Clauses: both counts, and one line's list.
 ghost use Rattle.sheet.specs.Fields.{trailOf};
-ghost use Rattle.encoding.specs.Lists.{lineList};
+ghost use Rattle.clause_lists.specs.Lists.{lineList};
 ghost use Rattle.clauses.specs.Answers.{countsOf, listAsks};
 ghost use Rattle.tablegull.specs.Answers.{Writes};
 ghost use Rattle.tablegull.specs.Calls.{countsAsks, countsNumbers};

@@ -2,7 +2,7 @@
 ghost use Rattle.sheet.specs.Fields.{trailOf};
 ghost use Rattle.runs.specs.Outcome.{outcome};
 ghost use Rattle.tablegull.specs.Answers.{Writes};
-ghost use Rattle.tablegull.specs.Calls.{runsAsks, outcomeNumbers};
+ghost use Rattle.tablegull.specs.Calls.{outcomeAsks, outcomeNumbers};
 use crate::TablegullAnswer;
 use crate::answers::no_room;
 use crate::answers::put_three;
@@ -18,7 +18,7 @@ pub extern "C" fn tablegull_two_runs(
     start: &[u64],
     out: &mut [u64],
 ) -> TablegullAnswer
-    ensures { λ r. ⌜ Writes (runsAsks (now (sheet .entry)) (now (start .entry)) (now (out .entry))) (outcomeNumbers (outcome (trailOf (now (sheet .entry))) (now (start .entry)))) (now (out .entry)) (now (out .exit)) r ⌝ }
+    ensures { λ r. ⌜ Writes (outcomeAsks (now (sheet .entry)) (now (start .entry)) (now (out .entry))) (outcomeNumbers (outcome (trailOf (now (sheet .entry))) (now (start .entry)))) (now (out .entry)) (now (out .exit)) r ⌝ }
 {
     if out.len() < 3 {
         return no_room(sheet);

@@ -10,16 +10,16 @@ use Rattle.trail.specs.Kinds.{Kind, kindOf, usesSecond}
 use Rattle.trail.specs.Kinds.Kind.{xorWords, xorConstant, rotatesLeft, rotatesRight, addWords, addConstant, unknown}
 
 -- a kind's number; 0 is the number of none
-abbrev pub numberOf : Kind → ℕ
-numberOf xorWords = 1
-numberOf xorConstant = 2
-numberOf rotatesLeft = 3
-numberOf rotatesRight = 4
-numberOf addWords = 5
-numberOf addConstant = 6
-numberOf unknown = 0
+abbrev pub kindNumber : Kind → ℕ
+kindNumber xorWords = 1
+kindNumber xorConstant = 2
+kindNumber rotatesLeft = 3
+kindNumber rotatesRight = 4
+kindNumber addWords = 5
+kindNumber addConstant = 6
+kindNumber unknown = 0
 
-kind-number : (q : Kind) → kindOf (numberOf q) ≡ q
+kind-number : (q : Kind) → kindOf (kindNumber q) ≡ q
 unfolding kindOf
 kind-number xorWords = refl
 kind-number xorConstant = refl
@@ -30,7 +30,7 @@ kind-number addConstant = refl
 kind-number unknown = refl
 
 -- the kind of a number that is known
-pub kind-of : (q : Kind) {k : ℕ} → k ≡ numberOf q → kindOf k ≡ q
+pub kind-of : (q : Kind) {k : ℕ} → k ≡ kindNumber q → kindOf k ≡ q
 kind-of q e = ap kindOf e ∙ kind-number q
 
 -- past 6 no number is a kind
@@ -47,7 +47,7 @@ kind-past k h =
     )
 
 -- the numbers up to 6 are told apart by their kinds
-number-kind : (k : ℕ) → k ≤ 6 → numberOf (kindOf k) ≡ k
+number-kind : (k : ℕ) → k ≤ 6 → kindNumber (kindOf k) ≡ k
 unfolding kindOf
 number-kind zero h = refl
 number-kind (suc zero) h = refl
@@ -59,7 +59,7 @@ number-kind (suc (suc (suc (suc (suc (suc zero)))))) h = refl
 number-kind (suc (suc (suc (suc (suc (suc (suc k))))))) h = absurd (omega arith)
 
 -- what holds of no kind, and of each kind with the number k, holds of k's kind
-pub by-number : (P : Kind → Type 0) (k : ℕ) → P unknown → ((q : Kind) → k ≡ numberOf q → P q) → P (kindOf k)
+pub by-number : (P : Kind → Type 0) (k : ℕ) → P unknown → ((q : Kind) → k ≡ kindNumber q → P q) → P (kindOf k)
 by-number P k none each = at (decLe k 6)
   where
     at : Dec (k ≤ 6) → P (kindOf k)
@@ -81,18 +81,18 @@ known-most k h = at (decLe k 6)
     at (no l) = absurd (h (kind-past k (omega arith)))
 
 pub known : (k : ℕ) → 1 ≤ k → k ≤ 6 → kindOf k ≢ unknown
-known k least most e = omega (arith, number-kind k most, ap numberOf e)
+known k least most e = omega (arith, number-kind k most, ap kindNumber e)
 
 -- the number of a kind that is known
-pub number-of : (q : Kind) (k : ℕ) → q ≢ unknown → kindOf k ≡ q → k ≡ numberOf q
-number-of q k h e = sym (number-kind k (known-most k (λ u. h (sym e ∙ u)))) ∙ ap numberOf e
+pub number-of : (q : Kind) (k : ℕ) → q ≢ unknown → kindOf k ≡ q → k ≡ kindNumber q
+number-of q k h e = sym (number-kind k (known-most k (λ u. h (sym e ∙ u)))) ∙ ap kindNumber e
 
 -- what holds of two kinds, the second's number the next, holds of the kind of either number
-pub kind-either : (P : Kind → Type 0) (q r : Kind) (k : ℕ) → numberOf q ≤ k → k ≤ numberOf r → numberOf r ≡ numberOf q + 1
+pub kind-either : (P : Kind → Type 0) (q r : Kind) (k : ℕ) → kindNumber q ≤ k → k ≤ kindNumber r → kindNumber r ≡ kindNumber q + 1
     → P q → P r → P (kindOf k)
-kind-either P q r k least most next pq pr = at (ℕ-discrete k (numberOf q))
+kind-either P q r k least most next pq pr = at (ℕ-discrete k (kindNumber q))
   where
-    at : Dec (k ≡ numberOf q) → P (kindOf k)
+    at : Dec (k ≡ kindNumber q) → P (kindOf k)
     at (yes e) = subst P (sym (kind-of q e)) pq
     at (no n) = subst P (sym (kind-of r (omega arith))) pr
 
@@ -101,10 +101,10 @@ pub second-number : (k : ℕ) → usesSecond (kindOf k) ≡ true → (k ≡ 1) �
 second-number k used = at (kindOf k) refl used
   where
     at : (q : Kind) → kindOf k ≡ q → usesSecond q ≡ true → (k ≡ 1) ⊎ (k ≡ 5)
-    at xorWords e u = inl (number-of xorWords k (λ e. omega (arith, ap numberOf e)) e)
+    at xorWords e u = inl (number-of xorWords k (λ e. omega (arith, ap kindNumber e)) e)
     at xorConstant e u = absurd (false≢true u)
     at rotatesLeft e u = absurd (false≢true u)
     at rotatesRight e u = absurd (false≢true u)
-    at addWords e u = inr (number-of addWords k (λ e. omega (arith, ap numberOf e)) e)
+    at addWords e u = inr (number-of addWords k (λ e. omega (arith, ap kindNumber e)) e)
     at addConstant e u = absurd (false≢true u)
     at unknown e u = absurd (false≢true u)

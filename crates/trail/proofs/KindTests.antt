@@ -6,7 +6,7 @@ use mathlib.Core.Logic.{_⊎_, inl, inr}
 use mathlib.Core.Bool.{Bool, true, false}
 use Rattle.trail.specs.Kinds.{Kind, kindOf, usesSecond, usesAmount, usesConstant}
 use Rattle.trail.specs.Kinds.Kind.{xorWords, xorConstant, rotatesLeft, rotatesRight, addWords, addConstant, unknown}
-use Rattle.trail.proofs.KindNumbers.{numberOf, kind-of, kind-either, by-number}
+use Rattle.trail.proofs.KindNumbers.{kindNumber, kind-of, kind-either, by-number}
 
 pub second-used : (k : ℕ) → (k ≡ 1) ⊎ (k ≡ 5) → usesSecond (kindOf k) ≡ true
 second-used k (inl e) = ap usesSecond (kind-of xorWords e)
@@ -22,7 +22,7 @@ amount-used k least most = kind-either (λ q. usesAmount q ≡ true) rotatesLeft
 pub second-unused : (k : ℕ) → ((k ≡ 1) ⊎ (k ≡ 5) → ⊥) → usesSecond (kindOf k) ≡ false
 second-unused k h = by-number (λ q. usesSecond q ≡ false) k refl at
   where
-    at : (q : Kind) → k ≡ numberOf q → usesSecond q ≡ false
+    at : (q : Kind) → k ≡ kindNumber q → usesSecond q ≡ false
     at xorWords e = absurd (h (inl e))
     at xorConstant e = refl
     at rotatesLeft e = refl
@@ -34,7 +34,7 @@ second-unused k h = by-number (λ q. usesSecond q ≡ false) k refl at
 pub constant-unused : (k : ℕ) → ((k ≡ 2) ⊎ (k ≡ 6) → ⊥) → usesConstant (kindOf k) ≡ false
 constant-unused k h = by-number (λ q. usesConstant q ≡ false) k refl at
   where
-    at : (q : Kind) → k ≡ numberOf q → usesConstant q ≡ false
+    at : (q : Kind) → k ≡ kindNumber q → usesConstant q ≡ false
     at xorWords e = refl
     at xorConstant e = absurd (h (inl e))
     at rotatesLeft e = refl
@@ -47,7 +47,7 @@ constant-unused k h = by-number (λ q. usesConstant q ≡ false) k refl at
 amount-unused : (k : ℕ) → (k < 3) ⊎ (4 < k) → usesAmount (kindOf k) ≡ false
 amount-unused k h = by-number (λ q. usesAmount q ≡ false) k refl (at h)
   where
-    at : (k < 3) ⊎ (4 < k) → (q : Kind) → k ≡ numberOf q → usesAmount q ≡ false
+    at : (k < 3) ⊎ (4 < k) → (q : Kind) → k ≡ kindNumber q → usesAmount q ≡ false
     at l xorWords e = refl
     at l xorConstant e = refl
     at (inl l) rotatesLeft e = absurd (omega arith)

@@ -3,13 +3,13 @@ use native.Mathlib.Omega.{arith}
 use mathlib.Core.Path.{_≡_, sym, ap, _∙_, subst}
 use lib.ListN.{length}
 use borrow.Author.Needs.{needs}
-use Rattle.encoding.specs.Lists.{lineList}
+use Rattle.clause_lists.specs.Lists.{lineList}
 use Rattle.sheet.specs.declared.Header.{Header}
-use Rattle.sheet.specs.declared.Mode.the-variants.{Read as reading}
+use Rattle.sheet.specs.declared.Mode.the-variants.{Read}
 use Rattle.sheet.specs.Asking.{verdict}
 use Rattle.sheet.specs.Asking.Verdict.{accepted, refused}
 use Rattle.sheet.specs.Fields.{headerOf, trailOf}
-use Rattle.sheet.specs.Facts.{Read}
+use Rattle.sheet.specs.Facts.{SheetRead}
 use Rattle.sheet.proofs.Calling.{refused-by-reading, accepted-by-reading, own-questions, no-line-first, some-line-first, no-room, some-room}
 use Rattle.sheet.proofs.WellFormed.{read-limited}
 use Rattle.clauses.specs.Answers.{listAsks}
@@ -67,7 +67,7 @@ returns-3 c =
     let k = start .args .k in
     let out = start .args .out .now in
     let yes = accepted-by-reading _ _ (c .before .before .before .before .before .before .before .before .read .ensures) _ (c .before .before .before .before .before .before .reading .given .1) in
-    let read : Read s _ = record { accepted = yes .0; parts = yes .1 } in
+    let read : SheetRead s _ = record { accepted = yes .0; parts = yes .1 } in
     let need = need-is s _ read k (c .before .before .before .if1 .left) (c .before .before .line-at .ensures) (c .before .numbers-in-list .ensures) in
     let below : k < headerOf s .lines = subst (λ (h : Header). k < h .lines) (sym (yes .1)) (c .before .before .before .if1 .left) in
     let short : length out < length (lineList (trailOf s) k) = subst (λ (n : ℕ). length out < n) need (c .if2 .taken) in
@@ -82,7 +82,7 @@ put-line-requires c κs =
     let k = start .args .k in
     let out = start .args .out .now in
     let yes = accepted-by-reading _ _ (c .before .before .before .before .before .before .before .before .before .read .ensures) _ (c .before .before .before .before .before .before .before .reading .given .1) in
-    let read : Read s _ = record { accepted = yes .0; parts = yes .1 } in
+    let read : SheetRead s _ = record { accepted = yes .0; parts = yes .1 } in
     let need = need-is s _ read k (c .before .before .before .before .if1 .left) (c .before .before .before .line-at .ensures) (c .before .before .numbers-in-list .ensures) in
     (read, c .before .before .before .before .if1 .left, subst (λ (n : ℕ). n ≤ length out) need (c .before .if2 .left))
 
@@ -96,7 +96,7 @@ returns-4 c =
     let k = start .args .k in
     let out = start .args .out .now in
     let yes = accepted-by-reading _ _ (c .before .before .before .before .before .before .before .before .before .before .before .read .ensures) _ (c .before .before .before .before .before .before .before .before .before .reading .given .1) in
-    let read : Read s _ = record { accepted = yes .0; parts = yes .1 } in
+    let read : SheetRead s _ = record { accepted = yes .0; parts = yes .1 } in
     let left = c .before .before .before .before .before .before .if1 .left in
     let need = need-is s _ read k left (c .before .before .before .before .before .line-at .ensures) (c .before .before .before .before .numbers-in-list .ensures) in
     let below : k < headerOf s .lines = subst (λ (h : Header). k < h .lines) (sym (yes .1)) left in

@@ -4,20 +4,20 @@ use mathlib.Core.List.{List}
 use borrow.Author.Needs.{needs}
 use borrow.Author.Tests.{not-true, not-false}
 use Rattle.sheet.specs.declared.Header.{Header}
-use Rattle.sheet.specs.declared.Mode.the-variants.{Read as reading}
+use Rattle.sheet.specs.declared.Mode.the-variants.{Read}
 use Rattle.sheet.specs.declared.Reading.{Reading}
 use Rattle.sheet.specs.declared.Reading.the-variants.{Accepted}
 use Rattle.sheet.specs.Asking.{verdict}
 use Rattle.sheet.specs.Fields.{headerOf}
 use Rattle.sheet.specs.Questions.{questions}
 use Rattle.sheet.specs.Answers.{readingMeans}
-use Rattle.sheet.specs.Facts.{Read}
+use Rattle.sheet.specs.Facts.{SheetRead}
 use Rattle.sheet.proofs.Calling.{refused-by-reading, accepted-by-reading, own-questions, no-start, some-start}
 use Rattle.sheet.proofs.WellFormed.{read-width, read-inputs, read-limited}
 use Rattle.runs.proofs.two_runs.Statement.{statement}
 use Rattle.runs.proofs.two_runs.Tie as tie
 
-was-read : (s : List ℕ) (r : Reading) → readingMeans r ≡ verdict (questions reading s) (headerOf s) → (h : Header) → r ≡ Accepted h → Read s h
+was-read : (s : List ℕ) (r : Reading) → readingMeans r ≡ verdict (questions Read s) (headerOf s) → (h : Header) → r ≡ Accepted h → SheetRead s h
 was-read s r e h is = let yes = accepted-by-reading s r e h is in record { accepted = yes .0; parts = yes .1 }
 
 read-requires : tie.Need-read-requires

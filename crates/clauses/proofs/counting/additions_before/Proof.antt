@@ -8,11 +8,11 @@ use Rattle.words.specs.Below.{count}
 use Rattle.words.proofs.Below.{count-le}
 use Rattle.trail.specs.declared.Line.{Line}
 use Rattle.trail.specs.Kinds.{kindOf}
-use Rattle.encoding.specs.Kinds.{isAddition}
-use Rattle.encoding.specs.Variables.{adds}
+use Rattle.clause_lists.specs.Kinds.{isAddition}
+use Rattle.clause_lists.specs.Variables.{adds}
 use Rattle.sheet.specs.Fields.{trailOf}
 use Rattle.sheet.proofs.WellFormed.{read-limited}
-use Rattle.run_clauses.proofs.KindRanges.{adds-at, adds-not}
+use Rattle.clause_writer.proofs.KindRanges.{adds-at, adds-not}
 use Rattle.clauses.proofs.SheetCounts.{count-start, count-more}
 use Rattle.clauses.proofs.counting.additions_before.Statement.{statement}
 use Rattle.clauses.proofs.counting.additions_before.Tie as tie

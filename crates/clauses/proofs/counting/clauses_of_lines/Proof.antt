@@ -4,7 +4,7 @@ use mathlib.Core.Path.{_≡_, sym, ap, _∙_}
 use lib.ListN.{length}
 use borrow.Author.Needs.{needs}
 use Rattle.words.specs.Below.{total}
-use Rattle.encoding.specs.Lists.{lineClauses}
+use Rattle.clause_lists.specs.Lists.{lineClauses}
 use Rattle.sheet.specs.Fields.{trailOf}
 use Rattle.sheet.proofs.WellFormed.{read-limited}
 use Rattle.clauses.proofs.SheetCounts.{total-start, total-more, clauses-are, clauses-upto, clauses-all}

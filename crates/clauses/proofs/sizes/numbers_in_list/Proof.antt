@@ -4,8 +4,8 @@ use mathlib.Core.Path.{_≡_, refl}
 use borrow.Author.Needs.{needs}
 use Rattle.trail.specs.Kinds.Kind.{xorWords, addWords, addConstant, unknown}
 use Rattle.trail.proofs.KindNumbers.{kind-of}
-use Rattle.encoding.specs.Sizes.{numbersAs}
-use Rattle.run_clauses.proofs.KindRanges.{kind-two-to-four, kind-past-six}
+use Rattle.clause_lists.specs.Sizes.{numbersAs}
+use Rattle.clause_writer.proofs.KindRanges.{kind-two-to-four, kind-past-six}
 use Rattle.clauses.proofs.sizes.numbers_in_list.Statement.{statement}
 use Rattle.clauses.proofs.sizes.numbers_in_list.Tie as tie
 

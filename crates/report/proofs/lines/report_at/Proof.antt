@@ -10,9 +10,9 @@ use Rattle.differential.specs.declared.Differential.{Differential}
 use Rattle.differential.specs.Demand2.{Proper}
 use Rattle.differential.specs.Report.{reportOf}
 use Rattle.sheet.specs.declared.Header.{Header}
-use Rattle.sheet.specs.declared.Mode.the-variants.{Read as reading}
+use Rattle.sheet.specs.declared.Mode.the-variants.{Read}
 use Rattle.sheet.specs.Fields.{headerOf, trailOf}
-use Rattle.sheet.specs.Facts.{Read}
+use Rattle.sheet.specs.Facts.{SheetRead}
 use Rattle.sheet.proofs.TrailParts.{trail-lines}
 use Rattle.sheet.proofs.WellFormed.{accepted-well-formed, accepted-limited, line-at-right}
 use Rattle.report.specs.Lines.{differentialOf, lineReport}
@@ -21,7 +21,7 @@ use Rattle.report.proofs.lines.report_at.Tie as tie
 use Rattle.report.proofs.lines.report_at.Statement.{statement}
 
 -- what was read is the trail's differential
-same : (s : List ℕ) (h : Header) → Read s h → (k : ℕ) {l : Line} {x y : ℕ} → l ≡ lineAt (trailOf s) k
+same : (s : List ℕ) (h : Header) → SheetRead s h → (k : ℕ) {l : Line} {x y : ℕ} → l ≡ lineAt (trailOf s) k
     → x ≡ differenceAt (trailOf s) (l .first) → y ≡ differenceAt (trailOf s) (l .second)
     → _≡_ {A = Differential} (record { width = h .width; line = l; first = x; second = y }) (differentialOf (trailOf s) k)
 unfolding differentialOf trailOf
@@ -54,8 +54,8 @@ report-requires c κs =
     let read = start .pre .0 in
     let lines : lineCount (trailOf s) ≡ h .lines = trail-lines s ∙ ap (λ (p : Header). p .lines) (read .parts) in
     let is = same s h read (start .args .k) (c .before .before .line-at .ensures) (c .before .difference-at .ensures) (c .difference-at2 .ensures) in
-    let proper = proper-line (accepted-well-formed reading s (read .accepted)) (start .args .k) (omega arith) in
-    let narrow = accepted-limited reading s (read .accepted) .width-most in
+    let proper = proper-line (accepted-well-formed Read s (read .accepted)) (start .args .k) (omega arith) in
+    let narrow = accepted-limited Read s (read .accepted) .width-most in
     (subst Proper (sym is) proper, subst (λ (p : Header). p .width ≤ 32) (read .parts) narrow)
 
 returns : tie.Need-returns

@@ -11,14 +11,14 @@ use Rattle.trail.specs.Trail.{lineAt}
 use Rattle.trail.specs.Runs.{wordOfLine}
 use Rattle.sheet.specs.declared.Header.{Header}
 use Rattle.sheet.specs.Fields.{trailOf}
-use Rattle.sheet.specs.Facts.{Read}
+use Rattle.sheet.specs.Facts.{SheetRead}
 use Rattle.sheet.proofs.WellFormed.{read-width, read-inputs, read-limited, line-at-right}
 use Rattle.runs.specs.Facts.{withLine}
 use Rattle.runs.proofs.lines.run_line.Statement.{statement}
 use Rattle.runs.proofs.lines.run_line.Tie as tie
 
 -- a line's word, made from the array's words, is the trail's
-made : (s : List ℕ) (h : Header) → Read s h → (k : ℕ) {l : Line} → l ≡ lineAt (trailOf s) k → (words : List ℕ) {after : List ℕ} {r : ℕ}
+made : (s : List ℕ) (h : Header) → SheetRead s h → (k : ℕ) {l : Line} → l ≡ lineAt (trailOf s) k → (words : List ℕ) {after : List ℕ} {r : ℕ}
     → (r ≡ makes (h .width) l (getD words (l .first) 0) (getD words (l .second) 0)) × (after ≡ set words (h .inputs + k) r)
     → (r ≡ wordOfLine (trailOf s) k words) × (after ≡ withLine (trailOf s) k words)
 unfolding wordOfLine

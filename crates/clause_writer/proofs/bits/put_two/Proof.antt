@@ -1,0 +1,31 @@
+use native.Mathlib.Omega.{arith}
+use mathlib.Core.Path.{sym, subst}
+use denote.Ref.{now}
+use Rattle.cnf.specs.Tables.{Small}
+use Rattle.clause_writer.proofs.WrittenGates.{small-two, held-two, GateFits, GateWritten}
+use borrow.Author.Needs.{needs}
+use Rattle.clause_writer.proofs.bits.put_two.Statement.{statement}
+use Rattle.clause_writer.proofs.bits.put_two.Tie as tie
+
+slice-aggregate-put-gate : tie.Need-slice-aggregate-put-gate
+slice-aggregate-put-gate c = search needs
+
+put-gate-requires : tie.Need-put-gate-requires
+put-gate-requires c κs =
+    let start = c .before .before in
+    let a = start .args in
+    let e = held-two (a .first) (a .output) (start .pre .0) (start .pre .1) in
+    (omega arith, omega arith, subst Small (sym e) (small-two (a .first) (a .output) (start .pre .0) (start .pre .1)), subst (GateFits (a .at) (a .table) (now (a .out))) (sym e) (start .pre .2))
+
+same-length : tie.Need-same-length
+same-length c = search needs
+
+returns : tie.Need-returns
+returns c =
+    let start = c .before .before .before .before in
+    let a = start .args in
+    let put = c .before .put-gate in
+    subst (GateWritten (a .at) (a .table) (now (a .out)) (put .result) (put .last .0)) (held-two (a .first) (a .output) (start .pre .0) (start .pre .1)) (put .ensures)
+
+pub put-two-spec : {M : Type 1} → statement M
+put-two-spec = tie.close (tie.spec slice-aggregate-put-gate put-gate-requires same-length returns)
