@@ -12,11 +12,10 @@ use Rattle.words.specs.Words.{isWord}
 use Rattle.words.specs.Below.{all}
 use Rattle.words.proofs.Below.{all-true}
 use Rattle.trail.specs.declared.Line.{Line}
-use Rattle.trail.specs.Kinds.{Kind, kindOf, usesSecond, usesAmount, usesConstant}
-use Rattle.trail.specs.Kinds.Kind.{addWords}
+use Rattle.trail.specs.Kinds.{kindOf, usesSecond, usesAmount, usesConstant, wantsDistinct}
 use Rattle.trail.specs.Trail.{inputCount, lineCount, lineAt}
 use Rattle.trail.specs.WellFormed.{WellFormedLine, WellFormed, Sized}
-use Rattle.trail.proofs.KindNumbers.{kindNumber, known, number-of}
+use Rattle.trail.proofs.KindNumbers.{known}
 use Rattle.sheet.specs.Asking.{allYes}
 use Rattle.sheet.specs.Fields.{headerOf, inputDifference, recordOf, lineOf, trailOf}
 use Rattle.sheet.specs.Questions.{within, lengthQuestions, checkQuestions, inputRight, headerQuestions, operandsEarlier, operandsDiffer, amountRight, constantRight, unusedZero, recordQuestions, lineQuestions, laterQuestions, questions}
@@ -41,12 +40,8 @@ unasked : (s t : Bool) → (s || t) ≡ true → s ≡ false → t ≡ true
 unasked true t e d = absurd (true≢false d)
 unasked false t e d = e
 
--- kind 5 is the addition of two words
-differs : (k x y : ℕ) → (not (eqb k 5) || not (eqb x y)) ≡ true → kindOf k ≡ addWords → x ≢ y
-differs k x y e u f =
-    let five : eqb k 5 ≡ true = eq-eqb k 5 (number-of addWords k (λ v. omega (arith, ap kindNumber v)) u) in
-    let same : eqb x y ≡ true = eq-eqb x y f in
-    false≢true (rw (five, same) at e)
+differ-asked : {x y : ℕ} → not (eqb x y) ≡ true → x ≢ y
+differ-asked {x} {y} e f = false≢true (rw (eq-eqb x y f) at e)
 
 below : (x n : ℕ) → 1 ≤ n → x ≤ n - 1 → x < n
 below x n h l = omega arith
@@ -72,7 +67,7 @@ line-right mode h k r wide e =
       kind-known = known (r .kind) (within-least 1 6 _ (kind .here)) (within-most 1 6 _ (kind .here));
       first-earlier = ltb-true _ _ (operands .0);
       second-earlier = λ u. ltb-true _ _ (asked (usesSecond uses) (ltb (r .second) (h .inputs + k)) (operands .1) u);
-      operands-differ = λ u f. differs (r .kind) (r .first) (r .second) (differ .here) u f;
+      operands-differ = λ u f. differ-asked (asked (wantsDistinct uses) (not (eqb (r .first) (r .second))) (differ .here) u) f;
       amount-least = λ u. within-least 1 (h .width - 1) _ (range u);
       amount-most = λ u. below (r .amount) (h .width) wide (within-most 1 (h .width - 1) _ (range u));
       constant-word = λ u. ltb-true _ _ (asked (usesConstant uses) (isWord (h .width) (r .constant)) (constant .here) u);

@@ -8,7 +8,7 @@ use lib.Dec.{leb, ltb, eqb}
 use Rattle.words.specs.Words.{isWord}
 use Rattle.words.specs.Below.{all, concat}
 use Rattle.buffers.specs.LittleEndian.{byteAt, numberAt}
-use Rattle.trail.specs.Kinds.{kindOf, usesSecond, usesAmount, usesConstant}
+use Rattle.trail.specs.Kinds.{kindOf, usesSecond, usesAmount, usesConstant, wantsDistinct}
 use Rattle.trail.specs.Trail.{Trail}
 use Rattle.trail.specs.Runs.{isStart}
 use Rattle.sheet.specs.Asking.{Question, ask}
@@ -73,7 +73,7 @@ operandsEarlier r word = ltb (r .first) word && (not (usesSecond (kindOf (r .kin
 
 -- for kind 5, the operands name different words
 unfoldable pub operandsDiffer : Record → Bool
-operandsDiffer r = not (eqb (r .kind) 5) || not (eqb (r .first) (r .second))
+operandsDiffer r = not (wantsDistinct (kindOf (r .kind))) || not (eqb (r .first) (r .second))
 
 -- for kinds 3, 4, the amount is 1 to n - 1
 unfoldable pub amountRight : Record → ℕ → Bool

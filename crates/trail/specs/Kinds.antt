@@ -21,43 +21,39 @@ kindOf k =
     (cond (eqb k 6) addConstant
     unknown)))))
 
--- Kinds 2, 3, 4 and 6 use the first operand only.
+-- What a kind says of its lines: which fields they use beside the first operand, whether the operands must name different words,
+-- and the word of width n that a line makes from its operands' words x and y.
+pub record Row : Type 0 where
+  pub second : Bool
+  pub amount : Bool
+  pub constant : Bool
+  pub distinct : Bool
+  pub word : ℕ → Line → ℕ → ℕ → ℕ
+
+-- Kinds 2, 3, 4 and 6 use the first operand only. An unknown kind uses nothing and makes no word, written 0.
+abbrev pub row : Kind → Row
+row xorWords = record { second = true; amount = false; constant = false; distinct = false; word = λ n l x y. bitXor x y }
+row xorConstant = record { second = false; amount = false; constant = true; distinct = false; word = λ n l x y. bitXor x (l .constant) }
+row rotatesLeft = record { second = false; amount = true; constant = false; distinct = false; word = λ n l x y. rotateLeft n (l .amount) x }
+row rotatesRight = record { second = false; amount = true; constant = false; distinct = false; word = λ n l x y. rotateRight n (l .amount) x }
+row addWords = record { second = true; amount = false; constant = false; distinct = true; word = λ n l x y. sumModulo n x y }
+row addConstant = record { second = false; amount = false; constant = true; distinct = false; word = λ n l x y. sumModulo n x (l .constant) }
+row unknown = record { second = false; amount = false; constant = false; distinct = false; word = λ n l x y. 0 }
+
 abbrev pub usesSecond : Kind → Bool
-usesSecond xorWords = true
-usesSecond xorConstant = false
-usesSecond rotatesLeft = false
-usesSecond rotatesRight = false
-usesSecond addWords = true
-usesSecond addConstant = false
-usesSecond unknown = false
+usesSecond q = row q .second
 
 abbrev pub usesAmount : Kind → Bool
-usesAmount xorWords = false
-usesAmount xorConstant = false
-usesAmount rotatesLeft = true
-usesAmount rotatesRight = true
-usesAmount addWords = false
-usesAmount addConstant = false
-usesAmount unknown = false
+usesAmount q = row q .amount
 
 abbrev pub usesConstant : Kind → Bool
-usesConstant xorWords = false
-usesConstant xorConstant = true
-usesConstant rotatesLeft = false
-usesConstant rotatesRight = false
-usesConstant addWords = false
-usesConstant addConstant = true
-usesConstant unknown = false
+usesConstant q = row q .constant
 
--- the word of width n that a line of a kind makes from its operands' words x and y; an unknown kind makes none, written 0
+abbrev pub wantsDistinct : Kind → Bool
+wantsDistinct q = row q .distinct
+
 abbrev pub makesAs : Kind → ℕ → Line → ℕ → ℕ → ℕ
-makesAs xorWords n l x y = bitXor x y
-makesAs xorConstant n l x y = bitXor x (l .constant)
-makesAs rotatesLeft n l x y = rotateLeft n (l .amount) x
-makesAs rotatesRight n l x y = rotateRight n (l .amount) x
-makesAs addWords n l x y = sumModulo n x y
-makesAs addConstant n l x y = sumModulo n x (l .constant)
-makesAs unknown n l x y = 0
+makesAs q = row q .word
 
 unfoldable pub makes : ℕ → Line → ℕ → ℕ → ℕ
 makes n l x y = makesAs (kindOf (l .kind)) n l x y

@@ -2,11 +2,11 @@
 use Prim.Native.Nat.{ℕ, _+_, _^_, _<_, _≤_}
 use mathlib.Core.Path.{_≡_}
 use mathlib.Core.Logic.{_≢_}
-use mathlib.Core.Bool.{Bool, true, false}
+use mathlib.Core.Bool.{true, false}
 use lib.ListN.{getD}
 use Rattle.trail.specs.declared.Line.{Line}
-use Rattle.trail.specs.Kinds.{Kind, kindOf, usesSecond, usesAmount, usesConstant}
-use Rattle.trail.specs.Kinds.Kind.{addWords, unknown}
+use Rattle.trail.specs.Kinds.{kindOf, usesSecond, usesAmount, usesConstant, wantsDistinct}
+use Rattle.trail.specs.Kinds.Kind.{unknown}
 use Rattle.trail.specs.Trail.{Trail, inputCount, lineCount, lineAt}
 
 -- a line of width n that makes word j
@@ -14,7 +14,7 @@ pub record WellFormedLine (n j : ℕ) (l : Line) : Type 0 where
   pub kind-known : kindOf (l .kind) ≢ unknown
   pub first-earlier : l .first < j
   pub second-earlier : usesSecond (kindOf (l .kind)) ≡ true → l .second < j
-  pub operands-differ : kindOf (l .kind) ≡ addWords → l .first ≢ l .second
+  pub operands-differ : wantsDistinct (kindOf (l .kind)) ≡ true → l .first ≢ l .second
   pub amount-least : usesAmount (kindOf (l .kind)) ≡ true → 1 ≤ l .amount
   pub amount-most : usesAmount (kindOf (l .kind)) ≡ true → l .amount < n
   pub constant-word : usesConstant (kindOf (l .kind)) ≡ true → l .constant < 2 ^ n

@@ -1,13 +1,12 @@
+-- `amount_right` asks of the rotations alone, which are a range of numbers.
 use native.Mathlib.Omega.{arith}
 use mathlib.Core.Path.{_≡_}
 use mathlib.Core.Bool.{true}
 use borrow.Author.Needs.{needs}
-use Rattle.sheet.specs.Questions.{within, amountRight}
+use Rattle.sheet.specs.Questions.{amountRight}
 use Rattle.sheet.proofs.Testing.{testing}
 use Rattle.trail.specs.Kinds.{kindOf, usesAmount}
 use Rattle.trail.proofs.KindTests.{kind-tests, amount-used}
-use Rattle.sheet.specs.Questions.{amountRight}
-use Rattle.trail.proofs.KindTests.{kind-tests}
 use Rattle.line_questions.proofs.amount_right.Tie as tie
 use Rattle.line_questions.proofs.amount_right.Statement.{statement}
 

@@ -1,23 +1,18 @@
+-- `unused_zero` looks at the two fields that the kind of each arm does not use; question 9 has settled that it is a kind.
 use mathlib.Core.Path.{_≡_, refl, sym, ap, _∙_}
-use mathlib.Core.Bool.{Bool, true, _&&_, _||_}
-use mathlib.Core.Logic.{inl, inr, ⊎-elim}
-use borrow.Author.Tests.{eq-eqb}
-use lib.Dec.{eqb}
-use mathlib.Core.Bool.{and-true}
-use mathlib.Core.Logic.{_⊎_}
-use native.Mathlib.Omega.{arith}
-use mathlib.Core.Bool.{Bool, _&&_, _||_}
+use mathlib.Core.Bool.{Bool, true, _&&_, _||_, and-true}
 use mathlib.Core.Logic.{⊎-elim}
+use native.Mathlib.Omega.{arith}
+use borrow.Author.Tests.{eq-eqb}
 use borrow.Author.Needs.{needs}
-use Rattle.words.specs.Below.{all}
+use lib.Dec.{eqb}
+use Prim.Native.Nat.{_≤_, _<_}
+use Rattle.trail.specs.Kinds.{Kind, kindOf, usesAmount, usesSecond, usesConstant}
+use Rattle.trail.proofs.KindNumbers.{at-keys, in-range, numbersWith, every-kind}
+use Rattle.trail.proofs.KindTests.{second-unused, amount-unused-below, amount-unused-above}
 use Rattle.sheet.specs.Questions.{unusedZero}
 use Rattle.sheet.proofs.Testing.{testing}
-use Rattle.sheet.proofs.Answering.{asked}
 use Rattle.sheet.specs.declared.Record.{Record}
-use Rattle.trail.specs.Kinds.{Kind, kindOf, usesAmount, usesSecond, usesConstant}
-use Rattle.trail.specs.Kinds.Kind.{xorWords, xorConstant, rotatesLeft, rotatesRight, addWords, addConstant}
-use Rattle.trail.proofs.KindNumbers.{kind-of, kind-either}
-use Rattle.trail.specs.Kinds.Kind.{xorWords, rotatesLeft, rotatesRight, addWords}
 use Rattle.line_questions.proofs.unused_zero.Tie as tie
 use Rattle.line_questions.proofs.unused_zero.Statement.{statement}
 
@@ -49,32 +44,33 @@ both-zero-requires-3 : tie.Need-both-zero-requires-3
 both-zero-requires-3 c κs = search needs
 
 returns-2 : tie.Need-returns-2
-unfolding rest
+unfolding rest kindOf
 returns-2 c =
     let l = c .before .before .before .before .before .args .line in
     let zero = asks l (c .before .before .before .if1 .left) in
-    c .both-zero .ensures
-    ∙ sym (zero ∙ ⊎-elim (λ e. ap (rest l) (kind-of xorWords e)) (λ e. ap (rest l) (kind-of addWords e)) (c .before .before .match .keys1))
+    let is = at-keys (λ q. rest l q ≡ (eqb (l .amount) 0 && eqb (l .constant) 0)) (numbersWith usesSecond) (l .kind) (c .before .before .match .keys1) (refl, (refl, tt)) in
+    c .both-zero .ensures ∙ sym (zero ∙ is)
 
 returns-3 : tie.Need-returns-3
-unfolding rest
+unfolding rest kindOf
 returns-3 c =
     let l = c .before .before .before .before .before .before .args .line in
     let zero = asks l (c .before .before .before .before .if1 .left) in
-    let is : (q : Kind) → Type 0 = λ q. rest l q ≡ (eqb (l .second) 0 && eqb (l .constant) 0) in
-    c .both-zero2 .ensures ∙ sym (zero ∙ kind-either is rotatesLeft rotatesRight (l .kind) (omega arith) (omega arith) refl refl refl)
+    let least : 3 ≤ l .kind = omega arith in
+    let most : l .kind < 5 = omega arith in
+    let is = in-range (λ q. rest l q ≡ (eqb (l .second) 0 && eqb (l .constant) 0)) least most (refl, (refl, tt)) in
+    c .both-zero2 .ensures ∙ sym (zero ∙ is)
 
 returns-4 : tie.Need-returns-4
-unfolding rest
+unfolding rest kindOf
 returns-4 c =
     let l = c .before .before .before .before .before .before .args .line in
     let zero = asks l (c .before .before .before .before .if1 .left) in
-    let no-word : (l .kind ≡ 1) ⊎ (l .kind ≡ 5) → ⊥ = c .before .before .before .match .rest .1 in
-    let not-1 : l .kind ≡ 1 → ⊥ = λ e. no-word (inl e) in
-    let not-5 : l .kind ≡ 5 → ⊥ = λ e. no-word (inr e) in
-    let two-or-six : (l .kind ≡ 2) ⊎ (l .kind ≡ 6) = ⊎-elim (λ w. inl (omega arith)) (λ w. inr (omega arith)) (c .before .before .if2 .came) in
-    let is : rest l (kindOf (l .kind)) ≡ (eqb (l .amount) 0 && (eqb (l .second) 0 && true)) = ⊎-elim (λ e. ap (rest l) (kind-of xorConstant e)) (λ e. ap (rest l) (kind-of addConstant e)) two-or-six in
-    c .both-zero3 .ensures ∙ sym (zero ∙ is ∙ ap (λ t. eqb (l .amount) 0 && t) (and-true (eqb (l .second) 0)))
+    let no-word = second-unused (l .kind) (c .before .before .before .match .rest .1) in
+    let no-amount = ⊎-elim (λ w. amount-unused-below (l .kind) (omega arith)) (λ w. amount-unused-above (l .kind) (omega arith)) (c .before .before .if2 .came) in
+    let some = every-kind (λ q. usesSecond q || (usesAmount q || usesConstant q)) refl (l .kind) (omega arith) (omega arith) in
+    let constant : usesConstant (kindOf (l .kind)) ≡ true = rw (no-word, no-amount) at some in
+    c .both-zero3 .ensures ∙ sym (zero ∙ rw (no-word, no-amount, constant) (ap (λ t. eqb (l .amount) 0 && t) (and-true (eqb (l .second) 0))))
 
 pub unused-zero-spec : {M : Type 1} → statement M
 unused-zero-spec =
