@@ -27,7 +27,7 @@ use Rattle.report_buffer.specs.Answers.{bufferAsks, bufferAfter}
 use Rattle.report_buffer.proofs.ReportBytes.{length-fields, length-reports}
 use Rattle.runs.specs.Outcome.{Outcome, outcome}
 use Rattle.runs.specs.Outcome.Outcome.{followed, disagree}
-use Rattle.runs.specs.Answers.{outcomeAsks as callAsks}
+use Rattle.runs.specs.Answers.{runsAsks as callAsks}
 use Rattle.clauses.specs.Answers.{listAsks, listCall}
 use Rattle.tablegull.specs.Answers.{answerOf, Writes}
 use Rattle.tablegull.specs.Calls.{lineReportAsks, lineReportBytes, outcomeAsks, outcomeNumbers}
