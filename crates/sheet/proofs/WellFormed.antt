@@ -1,25 +1,24 @@
 -- An accepted sheet's trail is well-formed, within the limits of document 01.
-use Prim.Native.Nat.{ℕ, _+_, _-_, _^_, _<_, _≤_}
+use Prim.Native.Nat.{ℕ, _+_, _^_, _<_, _≤_}
 use native.Mathlib.Omega.{arith}
-use mathlib.Core.Path.{_≡_, refl, sym, ap, ap₂, _∙_, subst}
+use mathlib.Core.Path.{_≡_, sym, ap, _∙_, subst}
 use mathlib.Core.Logic.{_≢_}
-use mathlib.Core.Bool.{Bool, true, false, not, _&&_, _||_, cond, and-eq-true-iff, true≢false, false≢true}
-use mathlib.Core.List.{List, [], _∷_, _++_}
+use mathlib.Core.Bool.{Bool, true, false, not, _||_, and-eq-true-iff, true≢false, false≢true}
+use mathlib.Core.List.{List}
 use borrow.Author.Tests.{eqb-true, ltb-true, eq-eqb, lt-ltb}
 use lib.Dec.{eqb, ltb}
-use lib.ListN.{length, getD}
+use lib.ListN.{getD}
 use Rattle.words.specs.Words.{isWord}
-use Rattle.words.specs.Below.{all}
 use Rattle.words.proofs.Below.{all-true}
 use Rattle.trail.specs.declared.Line.{Line}
-use Rattle.trail.specs.Kinds.{Kind, kindOf, usesSecond, usesAmount, usesConstant}
+use Rattle.trail.specs.Kinds.{kindOf, usesSecond, usesAmount, usesConstant}
 use Rattle.trail.specs.Kinds.Kind.{addWords}
 use Rattle.trail.specs.Trail.{inputCount, lineCount, lineAt}
 use Rattle.trail.specs.WellFormed.{WellFormedLine, WellFormed, Sized}
 use Rattle.trail.proofs.KindNumbers.{kindNumber, known, number-of}
 use Rattle.sheet.specs.Asking.{allYes}
 use Rattle.sheet.specs.Fields.{headerOf, inputDifference, recordOf, lineOf, trailOf}
-use Rattle.sheet.specs.Questions.{within, lengthQuestions, checkQuestions, inputRight, headerQuestions, operandsEarlier, operandsDiffer, amountRight, constantRight, unusedZero, recordQuestions, lineQuestions, laterQuestions, questions}
+use Rattle.sheet.specs.Questions.{lengthQuestions, checkQuestions, inputRight, headerQuestions, operandsEarlier, operandsDiffer, amountRight, constantRight, unusedZero, recordQuestions, lineQuestions, laterQuestions, questions}
 use Rattle.sheet.specs.Facts.{Whole, Limited, SheetRead}
 use Rattle.sheet.specs.declared.Header.{Header}
 use Rattle.sheet.specs.declared.Record.{Record}
@@ -48,9 +47,6 @@ differs k x y e u f =
     let same : eqb x y ≡ true = eq-eqb x y f in
     false≢true (rw (five, same) at e)
 
-below : (x n : ℕ) → 1 ≤ n → x ≤ n - 1 → x < n
-below x n h l = omega arith
-
 pub line-right : (mode : Mode) (h : Header) (k : ℕ) (r : Record) → 1 ≤ h .width → allYes (recordQuestions mode h k r) ≡ true
     → WellFormedLine (h .width) (h .inputs + k) (lineOf r)
 unfolding recordQuestions operandsEarlier operandsDiffer amountRight constantRight unusedZero
@@ -64,7 +60,6 @@ line-right mode h k r wide e =
     let unused = apart _ _ _ _ (difference .later) in
     let uses = kindOf (r .kind) in
     let operands = and-eq-true-iff (ltb (r .first) (h .inputs + k)) (not (usesSecond uses) || ltb (r .second) (h .inputs + k)) .0 (earlier .here) in
-    let range = asked (usesAmount uses) (within 1 (h .width - 1) (r .amount)) (amount .here) in
     let zero = and-eq-true-iff (eqb (r .zero) 0) _ .0 (unused .here) in
     let zero-amount = and-eq-true-iff (usesAmount uses || eqb (r .amount) 0) _ .0 (zero .1) in
     let zero-second = and-eq-true-iff (usesSecond uses || eqb (r .second) 0) (usesConstant uses || eqb (r .constant) 0) .0 (zero-amount .1) in
@@ -73,8 +68,8 @@ line-right mode h k r wide e =
       first-earlier = ltb-true _ _ (operands .0);
       second-earlier = λ u. ltb-true _ _ (asked (usesSecond uses) (ltb (r .second) (h .inputs + k)) (operands .1) u);
       operands-differ = λ u f. differs (r .kind) (r .first) (r .second) (differ .here) u f;
-      amount-least = λ u. within-least 1 (h .width - 1) _ (range u);
-      amount-most = λ u. below (r .amount) (h .width) wide (within-most 1 (h .width - 1) _ (range u));
+      amount-least = λ u. omega (arith, within-least _ _ _ (rw u at (amount .here)));
+      amount-most = λ u. omega (arith, within-most _ _ _ (rw u at (amount .here)));
       constant-word = λ u. ltb-true _ _ (asked (usesConstant uses) (isWord (h .width) (r .constant)) (constant .here) u);
       difference-word = ltb-true _ _ (difference .here);
       second-unused = λ u. eqb-true _ _ (unasked (usesSecond uses) (eqb (r .second) 0) (zero-second .0) u);
