@@ -5,10 +5,10 @@ use mathlib.Core.Logic.{_↔_, _⊎_, _≢_}
 use mathlib.Core.Bool.{true, false}
 use Rattle.trail.specs.WellFormed.{WellFormedLine}
 use Rattle.trail.specs.Kinds.{kindOf}
-use Rattle.trail.specs.Kinds.Kind.{addWords, addConstant}
 use Rattle.differential.specs.declared.Differential.{Differential}
 use Rattle.differential.specs.Fits.{fits, fitting, fittingPairs}
-use Rattle.differential.specs.Report.{Report, reportOf}
+use Rattle.differential.specs.Report.{Report, Reporting, reporting, reportOf}
+use Rattle.differential.specs.Report.Reporting.{linear, twoWords, constant}
 
 -- the differences are words of the line's width, and the line is well-formed
 pub record Proper (d : Differential) : Type 0 where
@@ -33,8 +33,8 @@ pub record HalvesRight (n pairs weight : ℕ) : Type 0 where
   pub pairs-fit : pairs ≡ 2 ^ (2 * n - bits)
 
 -- Impossible exactly when no operand values with the stated differences give the stated result difference; certain only when all
--- do; halves and counted as above. Adding two words is never certain or counted, adding a constant never certain or halves; kinds 1
--- to 4 are certain or impossible.
+-- do; halves and counted as above. Linear kinds are certain or impossible; adding two words is never certain or
+-- counted, adding a constant never certain or halves.
 pub record RightReport (d : Differential) (r : Report) : Type 0 where
   pub impossible-exactly : (r .number ≡ 0) ↔ ((x y : ℕ) → x < 2 ^ d .width → y < 2 ^ d .width → fits d x y ≡ false)
   pub certain-fits : r .number ≡ 1 → (x y : ℕ) → x < 2 ^ d .width → y < 2 ^ d .width → fits d x y ≡ true
@@ -42,9 +42,9 @@ pub record RightReport (d : Differential) (r : Report) : Type 0 where
   pub counted-right : r .number ≡ 3 → CountedRight (d .width) (fitting d) (r .weight) (r .chains)
   pub counted-fitting : r .number ≡ 3 → r .fitting ≡ fitting d
   pub number-most : r .number ≤ 3
-  pub words-number : kindOf (d .line .kind) ≡ addWords → (r .number ≡ 0) ⊎ (r .number ≡ 2)
-  pub constant-number : kindOf (d .line .kind) ≡ addConstant → (r .number ≡ 0) ⊎ (r .number ≡ 3)
-  pub linear-number : kindOf (d .line .kind) ≢ addWords → kindOf (d .line .kind) ≢ addConstant → (r .number ≡ 0) ⊎ (r .number ≡ 1)
+  pub linear-number : (given : Differential → ℕ) → reporting (kindOf (d .line .kind)) ≡ linear given → (r .number ≡ 0) ⊎ (r .number ≡ 1)
+  pub words-number : reporting (kindOf (d .line .kind)) ≡ twoWords → (r .number ≡ 0) ⊎ (r .number ≡ 2)
+  pub constant-number : reporting (kindOf (d .line .kind)) ≡ constant → (r .number ≡ 0) ⊎ (r .number ≡ 3)
 
 -- Demand 2 for every line by itself
 abbrev pub EveryReportIsRight : Type 0

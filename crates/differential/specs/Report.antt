@@ -56,29 +56,39 @@ wordsReport n α β γ = cond (wordsImpossible n α β γ) impossible (halves (w
 abbrev pub constantReport : ℕ → ℕ → ℕ → ℕ → ℕ → Report
 constantReport n a u v fit = cond (eqb fit 0) impossible (counted (constantWeight n a u v) (chains n u v) fit)
 
--- the XOR, copy or rotation of the operands' differences that kinds 1 to 4 give
-abbrev pub givenAs : Kind → Differential → ℕ
-givenAs xorWords d = bitXor (d .first) (d .second)
-givenAs xorConstant d = d .first
-givenAs rotatesLeft d = rotateLeft (d .width) (d .line .amount) (d .first)
-givenAs rotatesRight d = rotateRight (d .width) (d .line .amount) (d .first)
-givenAs addWords d = 0
-givenAs addConstant d = 0
-givenAs unknown d = 0
+-- How a kind's lines are reported: a linear kind by the difference that its operands' differences give, the others by an addition of
+-- two words or of a constant. An unknown kind has no report, written impossible.
+pub data Reporting : Type 0 where
+  linear : (Differential → ℕ) → Reporting
+  twoWords constant none : Reporting
 
-unfoldable pub givenDifference : Differential → ℕ
-givenDifference d = givenAs (kindOf (d .line .kind)) d
+-- Kinds 1 to 4 give the XOR, copy or rotation of the operands' differences.
+abbrev pub reporting : Kind → Reporting
+reporting xorWords = linear (λ d. bitXor (d .first) (d .second))
+reporting xorConstant = linear (λ d. d .first)
+reporting rotatesLeft = linear (λ d. rotateLeft (d .width) (d .line .amount) (d .first))
+reporting rotatesRight = linear (λ d. rotateRight (d .width) (d .line .amount) (d .first))
+reporting addWords = twoWords
+reporting addConstant = constant
+reporting unknown = none
 
--- Kinds 1 to 4 are certain if the difference is the XOR, copy or rotation of the operands' differences, else impossible. Kind 5
--- is halves or impossible. Kind 6 is counted or impossible.
-unfoldable pub reportAs : Kind → Differential → Report
-reportAs xorWords d = certainIf (d .line .difference) (givenAs xorWords d)
-reportAs xorConstant d = certainIf (d .line .difference) (givenAs xorConstant d)
-reportAs rotatesLeft d = certainIf (d .line .difference) (givenAs rotatesLeft d)
-reportAs rotatesRight d = certainIf (d .line .difference) (givenAs rotatesRight d)
-reportAs addWords d = wordsReport (d .width) (d .first) (d .second) (d .line .difference)
-reportAs addConstant d = constantReport (d .width) (d .line .constant) (d .first) (d .line .difference) (fitting d)
-reportAs unknown d = impossible
+-- Linear kinds are certain if the difference is the given one, else impossible. Kind 5 is halves or impossible. Kind 6 is counted
+-- or impossible.
+abbrev pub reportBy : Reporting → Differential → Report
+reportBy (linear given) d = certainIf (d .line .difference) (given d)
+reportBy twoWords d = wordsReport (d .width) (d .first) (d .second) (d .line .difference)
+reportBy constant d = constantReport (d .width) (d .line .constant) (d .first) (d .line .difference) (fitting d)
+reportBy none d = impossible
 
 unfoldable pub reportOf : Differential → Report
-reportOf d = reportAs (kindOf (d .line .kind)) d
+reportOf d = reportBy (reporting (kindOf (d .line .kind))) d
+
+-- what an inner function of the code cites: the difference that a linear line gives; other lines give none, written 0
+abbrev pub givenBy : Reporting → Differential → ℕ
+givenBy (linear given) d = given d
+givenBy twoWords d = 0
+givenBy constant d = 0
+givenBy none d = 0
+
+unfoldable pub givenDifference : Differential → ℕ
+givenDifference d = givenBy (reporting (kindOf (d .line .kind))) d

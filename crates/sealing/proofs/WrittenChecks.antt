@@ -1,10 +1,10 @@
 -- What the checks written one after the other leave in the bytes.
 use Prim.Native.Nat.{ℕ, zero, suc, _+_, _*_, _-_, _%_, _^_, _<_, _≤_}
 use native.Mathlib.Omega.{arith}
-use native.Mathlib.Nat.{mod-eq-of-lt, mod-lt}
+use native.Mathlib.Nat.{mod-eq-of-lt}
 use native.Mathlib.Numerals.{add-one}
 use native.Mathlib.Decide.{decLt}
-use mathlib.Core.Path.{_≡_, refl, sym, ap, ap₂, _∙_, subst}
+use mathlib.Core.Path.{_≡_, refl, sym, ap, _∙_, subst}
 use mathlib.Core.Logic.{_⊎_, inl, inr}
 use mathlib.Core.Bool.{true, false}
 use mathlib.Core.List.{List}
@@ -24,27 +24,26 @@ use Rattle.sheet.specs.declared.Mode.the-variants.{Seal}
 use Rattle.sealing.specs.Demands.{SameButChecks}
 use Rattle.sealing.proofs.OnlyChecks.{same-check}
 
--- one check written
-module _ (s : List ℕ) (b v : ℕ) (room : 512 * b + 512 ≤ length s) where
-  fits : checkPosition b + length (bytesOf 4 v) ≤ length s
-  fits = omega (arith, length-bytesOf 4 v)
-
+-- bytes written in the place of a block's check, four at most
+module _ (s : List ℕ) (b : ℕ) (bytes : List ℕ) (few : length bytes ≤ 4) (room : 512 * b + 512 ≤ length s) where
   written : List ℕ
-  written = overwrite (checkPosition b) (bytesOf 4 v) s
+  written = overwrite (checkPosition b) bytes s
+
+  fits : checkPosition b + length bytes ≤ length s
+  fits = omega arith
 
   written-length : length written ≡ length s
   unfolding written
-  written-length = overwrite-length (checkPosition b) (bytesOf 4 v) s fits
+  written-length = overwrite-length (checkPosition b) bytes s fits
 
   written-outside : (i : ℕ) → (i < 512 * b + 508) ⊎ (512 * b + 512 ≤ i) → byteAt written i ≡ byteAt s i
   unfolding written
-  written-outside i (inl l) = getD-overwrite-outside (checkPosition b) (bytesOf 4 v) s fits i 0 (inl l)
-  written-outside i (inr l) =
-      getD-overwrite-outside (checkPosition b) (bytesOf 4 v) s fits i 0 (inr (omega (arith, length-bytesOf 4 v)))
+  written-outside i (inl l) = getD-overwrite-outside (checkPosition b) bytes s fits i 0 (inl l)
+  written-outside i (inr l) = getD-overwrite-outside (checkPosition b) bytes s fits i 0 (inr (omega arith))
 
-  written-inside : (j : ℕ) → j < 4 → byteAt written (checkPosition b + j) ≡ byteAt (bytesOf 4 v) j
+  written-inside : (j : ℕ) → j < length bytes → byteAt written (checkPosition b + j) ≡ byteAt bytes j
   unfolding written
-  written-inside j l = getD-overwrite-inside (checkPosition b) (bytesOf 4 v) s fits j 0 (omega (arith, length-bytesOf 4 v))
+  written-inside j l = getD-overwrite-inside (checkPosition b) bytes s fits j 0 l
 
 pub checks-none : (s : List ℕ) → s ≡ withChecks 0 s
 unfolding withChecks
@@ -62,11 +61,12 @@ module _ (s : List ℕ) where
 
 -- the checks of n blocks written
 module _ (s : List ℕ) where
-  next-same : (n : ℕ) → 512 * suc n ≤ length s → SameButChecks (withChecks n s) s → SameButChecks (withChecks (suc n) s) s
-  unfolding withChecks written
-  next-same n l before = record {
-    same-length = written-length (withChecks n s) n (checkOf s n) room ∙ before .same-length;
-    same-byte = λ i g. written-outside (withChecks n s) n (checkOf s n) room i (side i g (decLt i (512 * n + 508))) ∙ before .same-byte i g;
+  next-same : (n : ℕ) (bytes : List ℕ) → length bytes ≤ 4 → 512 * suc n ≤ length s → SameButChecks (withChecks n s) s
+      → SameButChecks (overwrite (checkPosition n) bytes (withChecks n s)) s
+  unfolding written
+  next-same n bytes few l before = record {
+    same-length = written-length (withChecks n s) n bytes few room ∙ before .same-length;
+    same-byte = λ i g. written-outside (withChecks n s) n bytes few room i (side i g (decLt i (512 * n + 508))) ∙ before .same-byte i g;
   }
     where
       room : 512 * n + 512 ≤ length (withChecks n s)
@@ -79,15 +79,7 @@ module _ (s : List ℕ) where
   pub checks-same : (n : ℕ) → 512 * n ≤ length s → SameButChecks (withChecks n s) s
   unfolding withChecks
   checks-same zero l = record { same-length = refl; same-byte = λ i g. refl }
-  checks-same (suc n) l = next-same n l (checks-same n (omega arith))
-
-  -- the code takes each check from the bytes as they are then
-  pub checks-next : (n : ℕ) (t : List ℕ) (v : ℕ) → 512 * n ≤ length s → t ≡ withChecks n s → v ≡ checkOf t n
-      → overwrite (checkPosition n) (bytesOf 4 v) t ≡ withChecks (n + 1) s
-  unfolding withChecks
-  checks-next n t v l e d =
-      let check : v ≡ checkOf s n = d ∙ ap (λ x. checkOf x n) e ∙ same-check (checks-same n l) n in
-      rw (add-one, e, check)
+  checks-same (suc n) l = next-same n _ (simp length-bytesOf (omega arith)) l (checks-same n (omega arith))
 
   check-small : (b : ℕ) → checkOf s b < 256 ^ 4
   unfolding checkOf
@@ -100,12 +92,21 @@ module _ (s : List ℕ) where
   check-there (suc n) l b g =
       below-suc (λ a. numberAt 4 (withChecks (suc n) s) (checkPosition a) ≡ checkOf s a) n
       (λ a less. number-cong 4 (withChecks (suc n) s) (withChecks n s) (checkPosition a)
-      (λ j k. written-outside (withChecks n s) n (checkOf s n) room (checkPosition a + j) (inl (omega arith))) ∙ check-there n (omega arith) a less)
+      (λ j k. written-outside (withChecks n s) n _ (simp length-bytesOf (omega arith)) room (checkPosition a + j) (inl (omega arith)))
+      ∙ check-there n (omega arith) a less)
       (number-written 4 (checkOf s n) (checkPosition n) (withChecks n s) (omega (arith, room)) ∙ mod-eq-of-lt (check-small n))
       b g
     where
       room : 512 * n + 512 ≤ length (withChecks n s)
       room = omega (arith, checks-same n (omega arith) .same-length)
+
+  -- the code takes each check from the bytes as they are then
+  pub checks-next : (n : ℕ) (t : List ℕ) (v : ℕ) → 512 * n ≤ length s → t ≡ withChecks n s → v ≡ checkOf t n
+      → overwrite (checkPosition n) (bytesOf 4 v) t ≡ withChecks (n + 1) s
+  unfolding withChecks
+  checks-next n t v l e d =
+      let check : v ≡ checkOf s n = d ∙ ap (λ x. checkOf x n) e ∙ same-check (checks-same n l) n in
+      rw (add-one, e, check)
 
 -- two lists that are the same outside the checks, with the checks written
 module _ {s t : List ℕ} (h : SameButChecks s t) where
@@ -132,15 +133,15 @@ module _ {s t : List ℕ} (h : SameButChecks s t) where
 
       outside : (i < 512 * b + 508) ⊎ (512 * b + 512 ≤ i) → byteAt (withChecks (suc b) s) i ≡ byteAt (withChecks (suc b) t) i
       outside o =
-          written-outside (withChecks b s) b (checkOf s b) room₁ i o
+          written-outside (withChecks b s) b _ (simp length-bytesOf (omega arith)) room₁ i o
           ∙ before i (earlier o g (decLt i (512 * b)))
-          ∙ sym (written-outside (withChecks b t) b (checkOf t b) room₂ i o)
+          ∙ sym (written-outside (withChecks b t) b _ (simp length-bytesOf (omega arith)) room₂ i o)
 
       inside : (j : ℕ) → j < 4 → byteAt (withChecks (suc b) s) (checkPosition b + j) ≡ byteAt (withChecks (suc b) t) (checkPosition b + j)
       inside j k =
-          written-inside (withChecks b s) b (checkOf s b) room₁ j k
+          written-inside (withChecks b s) b _ (simp length-bytesOf (omega arith)) room₁ j (simp length-bytesOf (omega arith))
           ∙ ap (λ (v : ℕ). byteAt (bytesOf 4 v) j) (same-check h b)
-          ∙ sym (written-inside (withChecks b t) b (checkOf t b) room₂ j k)
+          ∙ sym (written-inside (withChecks b t) b _ (simp length-bytesOf (omega arith)) room₂ j (simp length-bytesOf (omega arith)))
 
       at : Dec (i < 512 * b + 508) → Dec (i < 512 * b + 512) → byteAt (withChecks (suc b) s) i ≡ byteAt (withChecks (suc b) t) i
       at (yes less) d = outside (inl less)

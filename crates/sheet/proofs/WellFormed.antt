@@ -1,24 +1,28 @@
 -- An accepted sheet's trail is well-formed, within the limits of document 01.
-use Prim.Native.Nat.{ℕ, _+_, _-_, _^_, _<_, _≤_}
+use Prim.Native.Nat.{ℕ, _+_, _^_, _<_, _≤_}
 use native.Mathlib.Omega.{arith}
-use mathlib.Core.Path.{_≡_, refl, sym, ap, ap₂, _∙_, subst}
+use mathlib.Core.Path.{_≡_, sym, ap, _∙_, subst}
 use mathlib.Core.Logic.{_≢_}
-use mathlib.Core.Bool.{Bool, true, false, not, _&&_, _||_, cond, and-eq-true-iff, true≢false, false≢true}
-use mathlib.Core.List.{List, [], _∷_, _++_}
+use mathlib.Core.Bool.{Bool, true, false, not, _||_, and-eq-true-iff, true≢false, false≢true}
+use mathlib.Core.List.{List}
 use borrow.Author.Tests.{eqb-true, ltb-true, eq-eqb, lt-ltb}
 use lib.Dec.{eqb, ltb}
-use lib.ListN.{length, getD}
+use lib.ListN.{getD}
 use Rattle.words.specs.Words.{isWord}
-use Rattle.words.specs.Below.{all}
 use Rattle.words.proofs.Below.{all-true}
 use Rattle.trail.specs.declared.Line.{Line}
+<<<<<<< HEAD
 use Rattle.trail.specs.Kinds.{kindOf, usesSecond, usesAmount, usesConstant, wantsDistinct}
+=======
+use Rattle.trail.specs.Kinds.{kindOf, usesSecond, usesAmount, usesConstant}
+use Rattle.trail.specs.Kinds.Kind.{addWords}
+>>>>>>> fix-h1
 use Rattle.trail.specs.Trail.{inputCount, lineCount, lineAt}
 use Rattle.trail.specs.WellFormed.{WellFormedLine, WellFormed, Sized}
 use Rattle.trail.proofs.KindNumbers.{known}
 use Rattle.sheet.specs.Asking.{allYes}
 use Rattle.sheet.specs.Fields.{headerOf, inputDifference, recordOf, lineOf, trailOf}
-use Rattle.sheet.specs.Questions.{within, lengthQuestions, checkQuestions, inputRight, headerQuestions, operandsEarlier, operandsDiffer, amountRight, constantRight, unusedZero, recordQuestions, lineQuestions, laterQuestions, questions}
+use Rattle.sheet.specs.Questions.{lengthQuestions, checkQuestions, inputRight, headerQuestions, operandsEarlier, operandsDiffer, amountRight, constantRight, unusedZero, recordQuestions, lineQuestions, laterQuestions, questions}
 use Rattle.sheet.specs.Facts.{Whole, Limited, SheetRead}
 use Rattle.sheet.specs.declared.Header.{Header}
 use Rattle.sheet.specs.declared.Record.{Record}
@@ -43,9 +47,6 @@ unasked false t e d = e
 differ-asked : {x y : ℕ} → not (eqb x y) ≡ true → x ≢ y
 differ-asked {x} {y} e f = false≢true (rw (eq-eqb x y f) at e)
 
-below : (x n : ℕ) → 1 ≤ n → x ≤ n - 1 → x < n
-below x n h l = omega arith
-
 pub line-right : (mode : Mode) (h : Header) (k : ℕ) (r : Record) → 1 ≤ h .width → allYes (recordQuestions mode h k r) ≡ true
     → WellFormedLine (h .width) (h .inputs + k) (lineOf r)
 unfolding recordQuestions operandsEarlier operandsDiffer amountRight constantRight unusedZero
@@ -59,7 +60,6 @@ line-right mode h k r wide e =
     let unused = apart _ _ _ _ (difference .later) in
     let uses = kindOf (r .kind) in
     let operands = and-eq-true-iff (ltb (r .first) (h .inputs + k)) (not (usesSecond uses) || ltb (r .second) (h .inputs + k)) .0 (earlier .here) in
-    let range = asked (usesAmount uses) (within 1 (h .width - 1) (r .amount)) (amount .here) in
     let zero = and-eq-true-iff (eqb (r .zero) 0) _ .0 (unused .here) in
     let zero-amount = and-eq-true-iff (usesAmount uses || eqb (r .amount) 0) _ .0 (zero .1) in
     let zero-second = and-eq-true-iff (usesSecond uses || eqb (r .second) 0) (usesConstant uses || eqb (r .constant) 0) .0 (zero-amount .1) in
@@ -67,9 +67,15 @@ line-right mode h k r wide e =
       kind-known = known (r .kind) (within-least 1 6 _ (kind .here)) (within-most 1 6 _ (kind .here));
       first-earlier = ltb-true _ _ (operands .0);
       second-earlier = λ u. ltb-true _ _ (asked (usesSecond uses) (ltb (r .second) (h .inputs + k)) (operands .1) u);
+<<<<<<< HEAD
       operands-differ = λ u f. differ-asked (asked (wantsDistinct uses) (not (eqb (r .first) (r .second))) (differ .here) u) f;
       amount-least = λ u. within-least 1 (h .width - 1) _ (range u);
       amount-most = λ u. below (r .amount) (h .width) wide (within-most 1 (h .width - 1) _ (range u));
+=======
+      operands-differ = λ u f. differs (r .kind) (r .first) (r .second) (differ .here) u f;
+      amount-least = λ u. omega (arith, within-least _ _ _ (rw u at (amount .here)));
+      amount-most = λ u. omega (arith, within-most _ _ _ (rw u at (amount .here)));
+>>>>>>> fix-h1
       constant-word = λ u. ltb-true _ _ (asked (usesConstant uses) (isWord (h .width) (r .constant)) (constant .here) u);
       difference-word = ltb-true _ _ (difference .here);
       second-unused = λ u. eqb-true _ _ (unasked (usesSecond uses) (eqb (r .second) 0) (zero-second .0) u);
