@@ -11,12 +11,7 @@ use lib.ListN.{getD}
 use Rattle.words.specs.Words.{isWord}
 use Rattle.words.proofs.Below.{all-true}
 use Rattle.trail.specs.declared.Line.{Line}
-<<<<<<< HEAD
 use Rattle.trail.specs.Kinds.{kindOf, usesSecond, usesAmount, usesConstant, wantsDistinct}
-=======
-use Rattle.trail.specs.Kinds.{kindOf, usesSecond, usesAmount, usesConstant}
-use Rattle.trail.specs.Kinds.Kind.{addWords}
->>>>>>> fix-h1
 use Rattle.trail.specs.Trail.{inputCount, lineCount, lineAt}
 use Rattle.trail.specs.WellFormed.{WellFormedLine, WellFormed, Sized}
 use Rattle.trail.proofs.KindNumbers.{known}
@@ -67,15 +62,9 @@ line-right mode h k r wide e =
       kind-known = known (r .kind) (within-least 1 6 _ (kind .here)) (within-most 1 6 _ (kind .here));
       first-earlier = ltb-true _ _ (operands .0);
       second-earlier = λ u. ltb-true _ _ (asked (usesSecond uses) (ltb (r .second) (h .inputs + k)) (operands .1) u);
-<<<<<<< HEAD
       operands-differ = λ u f. differ-asked (asked (wantsDistinct uses) (not (eqb (r .first) (r .second))) (differ .here) u) f;
-      amount-least = λ u. within-least 1 (h .width - 1) _ (range u);
-      amount-most = λ u. below (r .amount) (h .width) wide (within-most 1 (h .width - 1) _ (range u));
-=======
-      operands-differ = λ u f. differs (r .kind) (r .first) (r .second) (differ .here) u f;
       amount-least = λ u. omega (arith, within-least _ _ _ (rw u at (amount .here)));
       amount-most = λ u. omega (arith, within-most _ _ _ (rw u at (amount .here)));
->>>>>>> fix-h1
       constant-word = λ u. ltb-true _ _ (asked (usesConstant uses) (isWord (h .width) (r .constant)) (constant .here) u);
       difference-word = ltb-true _ _ (difference .here);
       second-unused = λ u. eqb-true _ _ (unasked (usesSecond uses) (eqb (r .second) 0) (zero-second .0) u);
