@@ -6,8 +6,9 @@ use mathlib.Core.Bool.{Bool, true}
 use mathlib.Core.List.{List}
 use Prim.Native.Nat.{ℕ, _+_, _<_}
 use native.Mathlib.Omega.{arith}
-use Rattle.words.specs.Words.{bit, carryInto}
+use Rattle.words.specs.Words.{bit}
 use Rattle.trail.specs.Kinds.{makes}
+use Rattle.trail.specs.Kinds.{kindOf}
 use Rattle.trail.specs.Trail.{Trail, inputCount, lineCount, lineAt}
 use Rattle.trail.specs.Runs.{follows}
 use Rattle.trail.specs.WellFormed.{WellFormedLine, WellFormed}
@@ -16,7 +17,8 @@ use Rattle.cnf.specs.Formulas.{variable, holds, satisfies}
 use Rattle.clause_lists.specs.Variables.{Run, carryLiteral}
 use Rattle.clause_lists.specs.Variables.Run.{firstRun}
 use Rattle.clause_lists.specs.Lists.{joined}
-use Rattle.clause_lists.specs.Assignments.{spelled, startOf, secondSummand, carryOf, Given, assignmentFrom}
+use Rattle.clause_lists.specs.Kinds.{gates}
+use Rattle.clause_lists.specs.Assignments.{spelled, startOf, secondSummand, carried, carryOf, Given, assignmentFrom}
 use Rattle.clause_lists.specs.Pairing.{SatisfiedExactly, MapsInverse, TrailPairs, EveryTrailPairs}
 use Rattle.clause_lists.proofs.GivenValues.{length-assignmentFrom, given-iff}
 use Rattle.clause_lists.proofs.Spelled.{spelled-start, spelled-again}
@@ -31,10 +33,10 @@ module _ {t : Trail} (good : WellFormed t) where
     -- the carries of the words read are the runs'
     carries-agree : Agrees good a → (run : Run) (k : ℕ) → k < lineCount t → (i : ℕ)
         → carryOf t run (spelled t a) k i
-        ≡ carryInto (readIn t a run (lineAt t k .first)) (secondSummand (lineAt t k) (readIn t a run (lineAt t k .second))) i
+        ≡ carried (gates (kindOf (lineAt t k .kind)) .carries) (readIn t a run (lineAt t k .first)) (secondSummand (lineAt t k) (readIn t a run (lineAt t k .second))) i
     unfolding carryOf
     carries-agree agrees run k h i =
-        ap₂ (λ (p q : ℕ). carryInto p (secondSummand (lineAt t k) q) i)
+        ap₂ (λ (p q : ℕ). carried (gates (kindOf (lineAt t k .kind)) .carries) p (secondSummand (lineAt t k) q) i)
         (agrees run (lineAt t k .first) (omega (arith, line .first-earlier)))
         (agrees run (lineAt t k .second) (omega (arith, second-below line)))
       where

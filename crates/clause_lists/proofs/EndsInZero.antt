@@ -1,19 +1,19 @@
 -- A line's list has a last number, and it is 0.
 use mathlib.Core.Path.{_≡_, refl, ap, _∙_}
-use mathlib.Core.Logic.{_≢_}
+use mathlib.Core.Bool.{Bool, true, false}
 use mathlib.Core.List.{List, [], _∷_, _++_}
 use Prim.Native.Nat.{ℕ, zero, _+_, _-_, _≤_, _<_}
 use native.Mathlib.Omega.{arith}
 use lib.IntN.{ℤ, pos}
 use lib.ListN.{length, getD, length-append}
 use lib.Seq.{getD-append-add}
-use Rattle.trail.specs.Kinds.{Kind, kindOf}
-use Rattle.trail.specs.Kinds.Kind.{xorWords, xorConstant, rotatesLeft, rotatesRight, addWords, addConstant, unknown}
+use Rattle.trail.specs.Kinds.{kindOf, usesSecond}
 use Rattle.trail.specs.Trail.{Trail, lineCount, lineAt}
 use Rattle.trail.specs.WellFormed.{WellFormed}
 use Rattle.cnf.specs.Formulas.{numbers}
+use Rattle.clause_lists.specs.Kinds.{hasCarries}
 use Rattle.clause_lists.specs.Lists.{lineClauses, lineList}
-use Rattle.clause_lists.specs.Sizes.{clausesAs}
+use Rattle.clause_lists.specs.Sizes.{gatesAs, sizeOf, clausesOfGate}
 use Rattle.clause_lists.specs.Pairing.{EndsInZero}
 use Rattle.clause_lists.proofs.Lengths.{line-clauses-length}
 
@@ -37,18 +37,15 @@ ends-numbers (c ∷ d ∷ cs) h =
     ends-append c (pos zero ∷ numbers (d ∷ cs))
     (ends-append (pos zero ∷ []) (numbers (d ∷ cs)) (ends-numbers (d ∷ cs) (omega arith)))
 
-some-clauses : (q : Kind) (n : ℕ) → q ≢ unknown → 2 ≤ n → 1 ≤ clausesAs q n
-some-clauses xorWords n known h = omega arith
-some-clauses xorConstant n known h = omega arith
-some-clauses rotatesLeft n known h = omega arith
-some-clauses rotatesRight n known h = omega arith
-some-clauses addWords n known h = omega arith
-some-clauses addConstant n known h = omega arith
-some-clauses unknown n known h = absurd (known refl)
+some-clauses : (second carries : Bool) (n : ℕ) → 2 ≤ n → 1 ≤ sizeOf clausesOfGate (gatesAs second carries n)
+some-clauses true true n h = omega arith
+some-clauses true false n h = omega arith
+some-clauses false true n h = omega arith
+some-clauses false false n h = omega arith
 
 pub ends-in-zero : {t : Trail} → WellFormed t → (k : ℕ) → k < lineCount t → EndsInZero (lineList t k)
 unfolding lineList
 ends-in-zero {t} good k h =
     ends-numbers (lineClauses t k)
     (rw (line-clauses-length good k h)
-    (some-clauses (kindOf (lineAt t k .kind)) (t .width) (good .lines-right k h .kind-known) (good .width-least)))
+    (some-clauses (usesSecond (kindOf (lineAt t k .kind))) (hasCarries (kindOf (lineAt t k .kind))) (t .width) (good .width-least)))

@@ -1,38 +1,33 @@
 -- Document 01's limits: at most 23,568 variables and 246,016 clauses, and at most 4,944 numbers in a line's list; and that 248
 -- lines of kind 5 at n = 32 and m = 8 meet them.
 use mathlib.Core.Path.{_≡_, refl}
+use mathlib.Core.Bool.{Bool, true, false}
 use Prim.Native.Nat.{ℕ, zero, suc, _+_, _-_, _*_, _≤_, _<_}
 use native.Mathlib.Nat.{mul-le-mul, mul-le-mul-left, mul-zero, mul-suc}
 use native.Mathlib.Omega.{arith}
 use lib.ListN.{length}
 use Rattle.words.specs.Below.{count, total}
 use Rattle.words.proofs.Below.{count-le}
-use Rattle.trail.specs.Kinds.{Kind, kindOf}
-use Rattle.trail.specs.Kinds.Kind.{xorWords, xorConstant, rotatesLeft, rotatesRight, addWords, addConstant, unknown}
+use Rattle.trail.specs.Kinds.{kindOf, usesSecond}
 use Rattle.trail.specs.Trail.{Trail, inputCount, lineCount, lineAt}
 use Rattle.trail.specs.WellFormed.{WellFormed, Sized}
+use Rattle.clause_lists.specs.Kinds.{hasCarries}
 use Rattle.clause_lists.specs.Variables.{adds, variablesBefore, variables}
 use Rattle.clause_lists.specs.Lists.{lineClauses, lineList, clauseCount}
-use Rattle.clause_lists.specs.Sizes.{clausesAs, numbersAs}
+use Rattle.clause_lists.specs.Sizes.{gatesAs, sizeOf, clausesOfGate, numbersOfGate}
 use Rattle.clause_lists.proofs.Lengths.{line-clauses-length, line-list-length}
 
-clauses-most : (q : Kind) (n : ℕ) → n ≤ 32 → clausesAs q n ≤ 992
-clauses-most xorWords n h = omega arith
-clauses-most xorConstant n h = omega arith
-clauses-most rotatesLeft n h = omega arith
-clauses-most rotatesRight n h = omega arith
-clauses-most addWords n h = omega arith
-clauses-most addConstant n h = omega arith
-clauses-most unknown n h = omega arith
+clauses-most : (second carries : Bool) (n : ℕ) → 2 ≤ n → n ≤ 32 → sizeOf clausesOfGate (gatesAs second carries n) ≤ 992
+clauses-most true true n l h = omega arith
+clauses-most true false n l h = omega arith
+clauses-most false true n l h = omega arith
+clauses-most false false n l h = omega arith
 
-numbers-most : (q : Kind) (n : ℕ) → n ≤ 32 → numbersAs q n ≤ 4944
-numbers-most xorWords n h = omega arith
-numbers-most xorConstant n h = omega arith
-numbers-most rotatesLeft n h = omega arith
-numbers-most rotatesRight n h = omega arith
-numbers-most addWords n h = omega arith
-numbers-most addConstant n h = omega arith
-numbers-most unknown n h = omega arith
+numbers-most : (second carries : Bool) (n : ℕ) → 2 ≤ n → n ≤ 32 → sizeOf numbersOfGate (gatesAs second carries n) ≤ 4944
+numbers-most true true n l h = omega arith
+numbers-most true false n l h = omega arith
+numbers-most false true n l h = omega arith
+numbers-most false false n l h = omega arith
 
 total-le : (n c : ℕ) (f : ℕ → ℕ) → ((k : ℕ) → k < n → f k ≤ c) → total n f ≤ c * n
 unfolding total
@@ -57,7 +52,7 @@ variables-most {t} small =
 module _ {t : Trail} (good : WellFormed t) (small : Sized t) where
   pub line-clauses-most : (k : ℕ) → k < lineCount t → length (lineClauses t k) ≤ 992
   line-clauses-most k h =
-      rw (line-clauses-length good k h) (clauses-most (kindOf (lineAt t k .kind)) (t .width) (small .width-most))
+      rw (line-clauses-length good k h) (clauses-most (usesSecond (kindOf (lineAt t k .kind))) (hasCarries (kindOf (lineAt t k .kind))) (t .width) (good .width-least) (small .width-most))
 
   pub clauses-count-most : clauseCount t ≤ 246016
   unfolding clauseCount
@@ -70,15 +65,15 @@ module _ {t : Trail} (good : WellFormed t) (small : Sized t) where
 
   pub line-list-most : (k : ℕ) → k < lineCount t → length (lineList t k) ≤ 4944
   line-list-most k h =
-      rw (line-list-length good k h) (numbers-most (kindOf (lineAt t k .kind)) (t .width) (small .width-most))
+      rw (line-list-length good k h) (numbers-most (usesSecond (kindOf (lineAt t k .kind))) (hasCarries (kindOf (lineAt t k .kind))) (t .width) (good .width-least) (small .width-most))
 
 -- ---- met
 
 pub most-variables : 32 * (8 + 248) + 2 * (32 - 1) * 248 ≡ 23568
 most-variables = refl
 
-pub most-clauses : clausesAs addWords 32 * 248 ≡ 246016
+pub most-clauses : sizeOf clausesOfGate (gatesAs true true 32) * 248 ≡ 246016
 most-clauses = refl
 
-pub most-numbers : numbersAs addWords 32 ≡ 4944
+pub most-numbers : sizeOf numbersOfGate (gatesAs true true 32) ≡ 4944
 most-numbers = refl

@@ -2,16 +2,18 @@
 -- "Clauses").
 use Prim.Native.Nat.{ℕ, _+_, _-_, _*_, _/_, _%_, _^_, _<_, _≤_}
 use mathlib.Core.Path.{_≡_}
-use mathlib.Core.Bool.{Bool, true, cond}
+use mathlib.Core.Bool.{Bool, true, false, cond}
 use mathlib.Core.List.{List, [], _++_}
 use lib.IntN.{ℤ}
-use Rattle.words.specs.Words.{bit, fromBits, carryInto}
+use Rattle.words.specs.Words.{bit, fromBits}
 use Rattle.words.specs.Below.{count, tabulate, concat}
 use Rattle.trail.specs.declared.Line.{Line}
 use Rattle.trail.specs.Kinds.{kindOf, usesSecond}
 use Rattle.trail.specs.Trail.{Trail, inputCount, lineCount, lineAt}
 use Rattle.trail.specs.Runs.{runWord, partner, follows}
 use Rattle.cnf.specs.Formulas.{variable, satisfies}
+use Rattle.clause_lists.specs.Kinds.{Carries, gates}
+use Rattle.clause_lists.specs.Kinds.Carries.{none, made}
 use Rattle.clause_lists.specs.Variables.{Run, bitVariable, carryVariable, adds, variables}
 use Rattle.clause_lists.specs.Variables.Run.{firstRun, secondRun}
 
@@ -28,10 +30,16 @@ startOf t secondRun x = partner t x
 abbrev pub secondSummand : Line → ℕ → ℕ
 secondSummand l y = cond (usesSecond (kindOf (l .kind))) y (l .constant)
 
+-- the value that a run with summands x and y gives the carry into bit i; without carries there is none, written 0
+abbrev pub carried : Carries → ℕ → ℕ → ℕ → Bool
+carried none x y i = false
+carried (made next value) x y i = value x y i
+
 -- the carry into bit i of line k in a run: 1 exactly when the low i bits of the two summands add up to 2 ^ i or more, else 0
 unfoldable pub carryOf : Trail → Run → List ℕ → ℕ → ℕ → Bool
 carryOf t run x k i =
-    carryInto (runWord t (startOf t run x) (lineAt t k .first))
+    carried (gates (kindOf (lineAt t k .kind)) .carries)
+    (runWord t (startOf t run x) (lineAt t k .first))
     (secondSummand (lineAt t k) (runWord t (startOf t run x) (lineAt t k .second)))
     i
 

@@ -1,42 +1,15 @@
 -- What each kind of line ties together in a bit (document 01, "Clauses").
 use Prim.Native.Nat.{ℕ, zero, suc, _+_, _-_, _%_}
-use mathlib.Core.Bool.{Bool, true, false, xor}
-use mathlib.Core.List.{List, [], _∷_}
+use mathlib.Core.Bool.{Bool, true, false, xor, cond}
+use mathlib.Core.List.{List, [], _∷_, _++_}
 use lib.Dec.{leb}
 use lib.IntN.{ℤ}
-use Rattle.words.specs.Words.{bit, value}
+use Rattle.words.specs.Words.{bit, value, carryInto}
 use Rattle.trail.specs.declared.Line.{Line}
-use Rattle.trail.specs.Kinds.{Kind}
+use Rattle.trail.specs.Kinds.{Kind, usesSecond, usesConstant}
 use Rattle.trail.specs.Kinds.Kind.{xorWords, xorConstant, rotatesLeft, rotatesRight, addWords, addConstant, unknown}
 use Rattle.cnf.specs.Gates.{Input}
 use Rattle.cnf.specs.Gates.Input.{known, literal}
-
--- additions have carries
-abbrev pub isAddition : Kind → Bool
-isAddition xorWords = false
-isAddition xorConstant = false
-isAddition rotatesLeft = false
-isAddition rotatesRight = false
-isAddition addWords = true
-isAddition addConstant = true
-isAddition unknown = false
-
--- the carry into bit i, `carry i` being its literal: the carry into bit 0 is no literal, and is 0
-abbrev pub carryInput : (ℕ → ℤ) → ℕ → Input
-carryInput carry zero = known false
-carryInput carry (suc i) = literal (carry (suc i))
-
--- The inputs of bit i (first operand, second operand, carry), `word j i` being the literal of bit i of word j. A constant's bit
--- is no literal. A word of n bits rotated left by r has in bit i the bit that stood r places below, around the end; rotated
--- right, the one r places above.
-abbrev pub inputsAs : Kind → ℕ → Line → (ℕ → ℕ → ℤ) → (ℕ → ℤ) → ℕ → List Input
-inputsAs xorWords n l word carry i = literal (word (l .first) i) ∷ literal (word (l .second) i) ∷ []
-inputsAs xorConstant n l word carry i = literal (word (l .first) i) ∷ known (bit (l .constant) i) ∷ []
-inputsAs rotatesLeft n l word carry i = literal (word (l .first) ((i + (n - l .amount)) % n)) ∷ []
-inputsAs rotatesRight n l word carry i = literal (word (l .first) ((i + l .amount) % n)) ∷ []
-inputsAs addWords n l word carry i = literal (word (l .first) i) ∷ literal (word (l .second) i) ∷ carryInput carry i ∷ []
-inputsAs addConstant n l word carry i = literal (word (l .first) i) ∷ known (bit (l .constant) i) ∷ carryInput carry i ∷ []
-inputsAs unknown n l word carry i = []
 
 -- a result's bit is the XOR of its inputs
 unfoldable pub parity : List Bool → Bool
@@ -50,3 +23,66 @@ ones (b ∷ bs) = value b + ones bs
 -- the next carry is 1 if two or more of the inputs are
 unfoldable pub twoOrMore : List Bool → Bool
 twoOrMore bs = leb 2 (ones bs)
+
+-- A bit of a line takes a bit of the first operand, or none: then its input is the value 0, which is no literal.
+pub data Taken : Type 0 where
+  bitAt : ℕ → Taken
+  noBit : Taken
+
+-- The carries of a kind's lines: none, or those that a function makes of a bit's inputs; with the value that a run gives the carry
+-- into bit i of summands x and y.
+pub data Carries : Type 0 where
+  none : Carries
+  made : (List Bool → Bool) → (ℕ → ℕ → ℕ → Bool) → Carries
+
+-- What a kind says of the gates of its lines: which bit of the first operand bit i takes, at width n and with the line's amount, and
+-- its carries.
+pub record Gates : Type 0 where
+  pub taken : ℕ → ℕ → ℕ → Taken
+  pub carries : Carries
+
+-- A word of n bits rotated left by r has in bit i the bit that stood r places below, around the end; rotated right, the one r places
+-- above.
+abbrev pub gates : Kind → Gates
+gates xorWords = record { taken = λ n r i. bitAt i; carries = none }
+gates xorConstant = record { taken = λ n r i. bitAt i; carries = none }
+gates rotatesLeft = record { taken = λ n r i. bitAt ((i + (n - r)) % n); carries = none }
+gates rotatesRight = record { taken = λ n r i. bitAt ((i + r) % n); carries = none }
+gates addWords = record { taken = λ n r i. bitAt i; carries = made twoOrMore carryInto }
+gates addConstant = record { taken = λ n r i. bitAt i; carries = made twoOrMore carryInto }
+gates unknown = record { taken = λ n r i. noBit; carries = none }
+
+abbrev pub someCarries : Carries → Bool
+someCarries none = false
+someCarries (made next carried) = true
+
+abbrev pub hasCarries : Kind → Bool
+hasCarries q = someCarries (gates q .carries)
+
+-- ---- the inputs of a bit, `word j i` being the literal of bit i of word j, and `carry i` that of the carry into bit i
+
+abbrev pub takenInput : Taken → (ℕ → ℤ) → Input
+takenInput (bitAt i) bits = literal (bits i)
+takenInput noBit bits = known false
+
+-- the second operand's bit, or the constant's, which is no literal
+abbrev pub otherInputs : Kind → Line → (ℕ → ℕ → ℤ) → ℕ → List Input
+otherInputs q l word i =
+    cond (usesSecond q) (literal (word (l .second) i) ∷ [])
+    (cond (usesConstant q) (known (bit (l .constant) i) ∷ [])
+    [])
+
+-- the carry into bit 0 is no literal, and is 0
+abbrev pub carryInput : (ℕ → ℤ) → ℕ → Input
+carryInput carry zero = known false
+carryInput carry (suc i) = literal (carry (suc i))
+
+abbrev pub carryInputs : Carries → (ℕ → ℤ) → ℕ → List Input
+carryInputs none carry i = []
+carryInputs (made next carried) carry i = carryInput carry i ∷ []
+
+-- the inputs of bit i: first operand, second operand, carry
+abbrev pub inputsAs : Kind → ℕ → Line → (ℕ → ℕ → ℤ) → (ℕ → ℤ) → ℕ → List Input
+inputsAs q n l word carry i =
+    takenInput (gates q .taken n (l .amount) i) (word (l .first))
+    ∷ (otherInputs q l word i ++ carryInputs (gates q .carries) carry i)

@@ -1,17 +1,18 @@
 -- A line's list of clauses (document 01, "Clauses").
 use Prim.Native.Nat.{ℕ, _+_}
-use mathlib.Core.Bool.{cond, _&&_}
+use mathlib.Core.Bool.{cond}
 use mathlib.Core.List.{List, [], _++_}
 use lib.Dec.{ltb}
 use lib.ListN.{length}
 use lib.IntN.{ℤ}
 use Rattle.words.specs.Below.{concat, total}
 use Rattle.trail.specs.declared.Line.{Line}
-use Rattle.trail.specs.Kinds.{Kind, kindOf}
+use Rattle.trail.specs.Kinds.{kindOf}
 use Rattle.trail.specs.Trail.{Trail, inputCount, lineCount, lineAt}
 use Rattle.cnf.specs.Formulas.{numbers}
 use Rattle.cnf.specs.Gates.{Input, gate}
-use Rattle.clause_lists.specs.Kinds.{isAddition, inputsAs, parity, twoOrMore}
+use Rattle.clause_lists.specs.Kinds.{Carries, gates, inputsAs, parity}
+use Rattle.clause_lists.specs.Kinds.Carries.{none, made}
 use Rattle.clause_lists.specs.Variables.{Run, bitLiteral, carryLiteral}
 use Rattle.clause_lists.specs.Variables.Run.{firstRun, secondRun}
 
@@ -20,11 +21,16 @@ module _ (n j : ℕ) (l : Line) (word : ℕ → ℕ → ℤ) (carry : ℕ → �
   abbrev pub inputs : ℕ → List Input
   inputs i = inputsAs (kindOf (l .kind)) n l word carry i
 
+  -- the next carry of bit i, out of the kind's carries
+  abbrev pub nextClauses : Carries → ℕ → List (List ℤ)
+  nextClauses none i = []
+  nextClauses (made next carried) i = gate next (inputs i) (carry (i + 1))
+
   -- a bit: result before next carry (none out of bit n - 1)
   unfoldable pub bitClauses : ℕ → List (List ℤ)
   bitClauses i =
       gate parity (inputs i) (word j i)
-      ++ cond (isAddition (kindOf (l .kind)) && ltb (i + 1) n) (gate twoOrMore (inputs i) (carry (i + 1))) []
+      ++ cond (ltb (i + 1) n) (nextClauses (gates (kindOf (l .kind)) .carries) i) []
 
   -- bits upward
   unfoldable pub runClauses : List (List ℤ)

@@ -6,7 +6,7 @@ use Rattle.words.specs.Words.{bit}
 use Rattle.words.specs.Below.{count}
 use Rattle.trail.specs.Kinds.{kindOf}
 use Rattle.trail.specs.Trail.{Trail, inputCount, lineCount, lineAt, differenceAt}
-use Rattle.clause_lists.specs.Kinds.{isAddition}
+use Rattle.clause_lists.specs.Kinds.{hasCarries}
 
 pub data Run : Type 0 where
   firstRun secondRun : Run
@@ -17,7 +17,7 @@ bitVariable t j i = t .width * j + i + 1
 
 -- whether line k is an addition line
 abbrev pub adds : Trail → ℕ → Bool
-adds t k = isAddition (kindOf (lineAt t k .kind))
+adds t k = hasCarries (kindOf (lineAt t k .kind))
 
 -- the variables of the words, and of the carries of the addition lines before line k: 2(n - 1) for each
 unfoldable pub variablesBefore : Trail → ℕ → ℕ
