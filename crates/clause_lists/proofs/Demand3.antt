@@ -24,6 +24,7 @@ use Rattle.clause_lists.proofs.GivenValues.{length-assignmentFrom, give
 use Rattle.clause_lists.proofs.Spelled.{spelled-start, spelled-again}
 use Rattle.clause_lists.proofs.Numbered.{equally-many}
 use Rattle.clause_lists.proofs.TrailLiterals.{names-variables}
+use Rattle.clause_lists.proofs.LastVariable.{names-last}
 use Rattle.clause_lists.proofs.BothRuns.{LineRight, joined-iff}
 use Rattle.clause_lists.proofs.ReadWords.{readIn, first-bits, starts, Agrees, agrees-made, agrees-follows, agrees-given}
 use Rattle.clause_lists.proofs.EndsInZero.{ends-in-zero}
@@ -105,6 +106,7 @@ module _ {t : Trail} (good : WellFormed t) where
     maps-inverse = maps-inverse;
     equally-many = equally-many t (joined t) (omega (arith, good .width-least)) maps-inverse;
     names-variables = names-variables good;
+    names-last = names-last good;
     ends-in-zero = ends-in-zero good;
   }
 

@@ -5,10 +5,12 @@ pub mod Spelled
 pub mod Numbered
 pub mod Lengths
 pub mod Limits
+pub mod LimitsMet
 pub mod Adder
 pub mod RunLiterals
 pub mod OneRun
 pub mod TrailLiterals
+pub mod LastVariable
 pub mod BothRuns
 pub mod ReadWords
 pub mod EndsInZero

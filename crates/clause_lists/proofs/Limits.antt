@@ -1,6 +1,4 @@
--- Document 01's limits: at most 23,568 variables and 246,016 clauses, and at most 4,944 numbers in a line's list; and that 248
--- lines of kind 5 at n = 32 and m = 8 meet them.
-use mathlib.Core.Path.{_≡_, refl}
+-- No trail of a sheet's size passes document 01's limits: kind 5 at n = 32 has the most clauses and the most numbers.
 use mathlib.Core.Bool.{Bool, true, false}
 use Prim.Native.Nat.{ℕ, zero, suc, _+_, _-_, _*_, _≤_, _<_}
 use native.Mathlib.Nat.{mul-le-mul, mul-le-mul-left, mul-zero, mul-suc}
@@ -15,6 +13,7 @@ use Rattle.clause_lists.specs.Kinds.{hasCarries}
 use Rattle.clause_lists.specs.Variables.{adds, variablesBefore, variables}
 use Rattle.clause_lists.specs.Lists.{lineClauses, lineList, clauseCount}
 use Rattle.clause_lists.specs.Sizes.{gatesAs, sizeOf, clausesOfGate, numbersOfGate}
+use Rattle.clause_lists.specs.Limits.{mostVariables, mostClauses, mostNumbers, WithinLimits}
 use Rattle.clause_lists.proofs.Lengths.{line-clauses-length, line-list-length}
 
 clauses-most : (second carries : Bool) (n : ℕ) → 2 ≤ n → n ≤ 32 → sizeOf clausesOfGate (gatesAs second carries n) ≤ 992
@@ -23,7 +22,7 @@ clauses-most true false n l h = omega arith
 clauses-most false true n l h = omega arith
 clauses-most false false n l h = omega arith
 
-numbers-most : (second carries : Bool) (n : ℕ) → 2 ≤ n → n ≤ 32 → sizeOf numbersOfGate (gatesAs second carries n) ≤ 4944
+numbers-most : (second carries : Bool) (n : ℕ) → 2 ≤ n → n ≤ 32 → sizeOf numbersOfGate (gatesAs second carries n) ≤ mostNumbers
 numbers-most true true n l h = omega arith
 numbers-most true false n l h = omega arith
 numbers-most false true n l h = omega arith
@@ -34,7 +33,7 @@ unfolding total
 total-le zero c f h = omega (arith, mul-zero c)
 total-le (suc n) c f h = omega (arith, total-le n c f (λ k l. h k (omega arith)), h n (omega arith), mul-suc c n)
 
-pub variables-most : {t : Trail} → Sized t → variables t ≤ 23568
+variables-most : {t : Trail} → Sized t → variables t ≤ mostVariables
 unfolding variables variablesBefore
 variables-most {t} small =
     omega (
@@ -50,11 +49,11 @@ variables-most {t} small =
     additions = omega (arith, count-le (lineCount t) (adds t), small .lines-most)
 
 module _ {t : Trail} (good : WellFormed t) (small : Sized t) where
-  pub line-clauses-most : (k : ℕ) → k < lineCount t → length (lineClauses t k) ≤ 992
+  line-clauses-most : (k : ℕ) → k < lineCount t → length (lineClauses t k) ≤ 992
   line-clauses-most k h =
       rw (line-clauses-length good k h) (clauses-most (usesSecond (kindOf (lineAt t k .kind))) (hasCarries (kindOf (lineAt t k .kind))) (t .width) (good .width-least) (small .width-most))
 
-  pub clauses-count-most : clauseCount t ≤ 246016
+  pub clauses-count-most : clauseCount t ≤ mostClauses
   unfolding clauseCount
   clauses-count-most =
       omega (
@@ -63,17 +62,13 @@ module _ {t : Trail} (good : WellFormed t) (small : Sized t) where
         mul-le-mul-left 992 (small .lines-most),
       )
 
-  pub line-list-most : (k : ℕ) → k < lineCount t → length (lineList t k) ≤ 4944
+  line-list-most : (k : ℕ) → k < lineCount t → length (lineList t k) ≤ mostNumbers
   line-list-most k h =
       rw (line-list-length good k h) (numbers-most (usesSecond (kindOf (lineAt t k .kind))) (hasCarries (kindOf (lineAt t k .kind))) (t .width) (good .width-least) (small .width-most))
 
--- ---- met
-
-pub most-variables : 32 * (8 + 248) + 2 * (32 - 1) * 248 ≡ 23568
-most-variables = refl
-
-pub most-clauses : sizeOf clausesOfGate (gatesAs true true 32) * 248 ≡ 246016
-most-clauses = refl
-
-pub most-numbers : sizeOf numbersOfGate (gatesAs true true 32) ≡ 4944
-most-numbers = refl
+  pub within-limits : WithinLimits t
+  within-limits = record {
+    variables-most = variables-most small;
+    clauses-most = clauses-count-most;
+    numbers-most = line-list-most;
+  }

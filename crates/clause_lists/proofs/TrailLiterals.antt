@@ -1,5 +1,5 @@
 -- The literals of a trail: none is 0, and each names a variable of the trail.
-use mathlib.Core.Path.{_≡_, ap}
+use mathlib.Core.Path.{_≡_, refl, ap}
 use mathlib.Core.Bool.{Bool, true, false, cond}
 use Prim.Native.Nat.{ℕ, zero, suc, _+_, _-_, _*_, _≤_, _<_}
 use native.Mathlib.Nat.{mul-suc, mul-le-mul-left}
@@ -55,14 +55,17 @@ nonzero-run t run k = record {
 
 -- ---- each names a variable
 
+pub magnitude-neg : (l : ℤ) → natAbs (negℤ l) ≡ natAbs l
+magnitude-neg (pos zero) = refl
+magnitude-neg (pos (suc k)) = refl
+magnitude-neg (negsuc k) = refl
+
 module _ (t : Trail) where
   abbrev Names : ℤ → Type 0
   Names l = natAbs l ≤ variables t
 
   names-neg : (l : ℤ) → Names l → Names (negℤ l)
-  names-neg (pos zero) h = h
-  names-neg (pos (suc k)) h = h
-  names-neg (negsuc k) h = h
+  names-neg l h = rw (magnitude-neg l) h
 
   names-bit : (run : Run) (j i : ℕ) → j < inputCount t + lineCount t → i < t .width → Names (bitLiteral t run j i)
   unfolding bitVariable variables variablesBefore

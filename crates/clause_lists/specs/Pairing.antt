@@ -50,6 +50,10 @@ EquallyMany t list = satisfyingCount t list ≡ followingCount t
 abbrev pub NamesVariables : Trail → List ℤ → Type 0
 NamesVariables t list = (i : ℕ) → i < length list → natAbs (getD list i (pos 0)) ≤ variables t
 
+-- and the last of them is named: the trail's count is the largest variable in the list
+abbrev pub NamesLast : Trail → List ℤ → Type 0
+NamesLast t list = (i : ℕ) × (i < length list) × (natAbs (getD list i (pos 0)) ≡ variables t)
+
 -- a line's list has a last number, and it is 0
 pub record EndsInZero (list : List ℤ) : Type 0 where
   pub some : 1 ≤ length list
@@ -61,6 +65,7 @@ pub record TrailPairs (t : Trail) : Type 0 where
   pub maps-inverse : MapsInverse t (joined t)
   pub equally-many : EquallyMany t (joined t)
   pub names-variables : NamesVariables t (joined t)
+  pub names-last : NamesLast t (joined t)
   pub ends-in-zero : (k : ℕ) → k < lineCount t → EndsInZero (lineList t k)
 
 abbrev pub EveryTrailPairs : Type 0

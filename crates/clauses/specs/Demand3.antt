@@ -9,9 +9,9 @@ use Rattle.words.specs.Below.{concat}
 use Rattle.trail.specs.Trail.{Trail, lineCount}
 use Rattle.trail.specs.Runs.{isStart, follows}
 use Rattle.cnf.specs.Formulas.{variable, clausesOf, satisfies}
-use Rattle.clause_lists.specs.Variables.{variables}
 use Rattle.clause_lists.specs.Lists.{lineList, clauseCount}
-use Rattle.clause_lists.specs.Pairing.{IsAssignment, SatisfiedExactly, MapsInverse, EquallyMany, NamesVariables, EndsInZero}
+use Rattle.clause_lists.specs.Limits.{WithinLimits}
+use Rattle.clause_lists.specs.Pairing.{IsAssignment, SatisfiedExactly, MapsInverse, EquallyMany, NamesVariables, NamesLast, EndsInZero}
 use Rattle.sheet.specs.Asking.{Verdict}
 use Rattle.sheet.specs.Asking.Verdict.{accepted, refused}
 use Rattle.sheet.specs.Fields.{trailOf}
@@ -58,12 +58,12 @@ pub record Pairs (s : List ℕ) (buffers : ℕ → List ℤ) : Type 0 where
 abbrev pub EverySheetPairs : Type 0
 EverySheetPairs = (s : List ℕ) → IsAccepted s → (buffers : ℕ → List ℤ) → LongEnough s buffers → Pairs s buffers
 
--- Both counts are the list's own, and document 01's limits are never passed.
+-- Both counts are the list's own: the clauses are as many as are read from it, and the variables' count is the largest variable in
+-- it, which some number names and none passes (part 5). Document 01's limits are never passed.
 pub record CountsRight (s : List ℕ) (buffers : ℕ → List ℤ) : Type 0 where
   pub clauses-written : length (clausesOf (joinedList s buffers)) ≡ clauseCount (trailOf s)
-  pub variables-most : variables (trailOf s) ≤ 23568
-  pub clauses-most : clauseCount (trailOf s) ≤ 246016
-  pub numbers-most : (k : ℕ) → k < lineCount (trailOf s) → length (lineList (trailOf s) k) ≤ 4944
+  pub names-last : NamesLast (trailOf s) (joinedList s buffers)
+  pub within-limits : WithinLimits (trailOf s)
 
 abbrev pub EverySheetCountsRight : Type 0
 EverySheetCountsRight = (s : List ℕ) → IsAccepted s → (buffers : ℕ → List ℤ) → LongEnough s buffers → CountsRight s buffers

@@ -3,10 +3,11 @@ use mathlib.Core.Path.{_≡_, refl, sym, ap, _∙_}
 use mathlib.Core.Logic.{_↔_}
 use mathlib.Core.Bool.{Bool, true, false, not, _&&_, cond, xor, and-assoc, and-eq-true-iff, Bool·not-not}
 use mathlib.Core.List.{List, [], _∷_, _++_, append-assoc, append-nil}
-use Prim.Native.Nat.{ℕ, zero, suc, _<_}
+use Prim.Native.Nat.{ℕ, zero, suc, _+_, _<_}
 use native.Mathlib.Omega.{arith}
 use borrow.Author.Count.{below-none}
-use lib.ListN.{length, getD}
+use lib.ListN.{length, getD, length-append, List·getD-append}
+use lib.Seq.{getD-append-add}
 use lib.IntN.{ℤ, pos, negsuc, negℤ}
 use Rattle.words.specs.Below.{concat}
 use Rattle.words.proofs.Below.{below-suc}
@@ -117,6 +118,36 @@ pub numbers-concat : (n : ℕ) (f : ℕ → List (List ℤ)) → concat n (λ k.
 unfolding concat numbers
 numbers-concat zero f = refl
 numbers-concat (suc n) f = ap (λ (ns : List ℤ). ns ++ numbers (f n)) (numbers-concat n f) ∙ sym (numbers-append (concat n f) (f n))
+
+-- ---- some number of a list, some number of clauses
+
+abbrev pub Some : (ℤ → Type 0) → List ℤ → Type 0
+Some P ns = (i : ℕ) × (i < length ns) × P (getD ns i (pos 0))
+
+abbrev pub SomeIn : (ℤ → Type 0) → List (List ℤ) → Type 0
+SomeIn P cs = Some P (numbers cs)
+
+module _ (P : ℤ → Type 0) where
+  pub some-left : (ks ls : List ℤ) → Some P ks → Some P (ks ++ ls)
+  some-left ks ls (i, l, h) = (i, omega (arith, length-append ks ls), rw (List·getD-append ks ls (pos 0) i l) h)
+
+  pub some-right : (ks ls : List ℤ) → Some P ls → Some P (ks ++ ls)
+  some-right ks ls (i, l, h) = (length ks + i, omega (arith, length-append ks ls), rw (getD-append-add ks ls i (pos 0)) h)
+
+  pub some-in-left : (cs ds : List (List ℤ)) → SomeIn P cs → SomeIn P (cs ++ ds)
+  some-in-left cs ds h = rw (numbers-append cs ds) (some-left (numbers cs) (numbers ds) h)
+
+  pub some-in-right : (cs ds : List (List ℤ)) → SomeIn P ds → SomeIn P (cs ++ ds)
+  some-in-right cs ds h = rw (numbers-append cs ds) (some-right (numbers cs) (numbers ds) h)
+
+  pub some-in-concat : (n : ℕ) (f : ℕ → List (List ℤ)) (i : ℕ) → i < n → SomeIn P (f i) → SomeIn P (concat n f)
+  unfolding concat
+  some-in-concat zero f i l h = absurd (omega arith)
+  some-in-concat (suc n) f i l h =
+      below-suc (λ k. SomeIn P (f k) → SomeIn P (concat n f ++ f n)) n
+      (λ k less here. some-in-left (concat n f) (f n) (some-in-concat n f k less here))
+      (some-in-right (concat n f) (f n))
+      i l h
 
 -- a clause is read again behind the literals that are begun
 read-clause : (begun c ns : List ℤ) → Every Nonzero c → clausesFrom begun (c ++ (pos zero ∷ ns)) ≡ (begun ++ c) ∷ clausesFrom [] ns

@@ -1,23 +1,25 @@
--- What satisfies a gate's clauses, and how many there are. Assumes nothing.
+-- What satisfies a gate's clauses, how many there are, and that its output occurs in them. Assumes nothing.
 use mathlib.Core.Path.{_≡_, refl, sym, ap, ap₂, _∙_}
 use mathlib.Core.Logic.{_↔_}
 use mathlib.Core.Bool.{Bool, true, false, not, cond, xor, and-true, true≢false}
 use mathlib.Core.List.{List, [], _∷_, _++_, map}
-use Prim.Native.Nat.{ℕ, zero, suc, _+_, _*_, _%_, _^_, _<_}
+use Prim.Native.Nat.{ℕ, zero, _+_, _*_, _%_, _^_, _≤_, _<_}
 use native.Mathlib.Nat.{mod-eq-of-lt, mul-add}
 use native.Mathlib.Numerals.{add-one}
 use native.Mathlib.Omega.{arith}
 use borrow.Author.Tests.{eq-eqb, ne-eqb}
 use lib.Dec.{eqb}
 use lib.ListN.{length, length-append}
-use lib.IntN.{ℤ, negℤ}
+use lib.IntN.{ℤ, pos, negℤ}
+use lib.Pow.{pow-pos}
 use Rattle.words.specs.Words.{value, bit}
 use Rattle.words.specs.Below.{concat, total}
+use Rattle.words.proofs.Bits.{value-inj}
 use Rattle.words.proofs.Below.{total-cong, total-add, total-same, length-concat}
 use Rattle.words.proofs.LowBits.{low, bit-low-zero, bit-low-suc, total-low}
 use Rattle.cnf.specs.Formulas.{holds, someHolds, allHold, numbers}
 use Rattle.cnf.specs.Gates.{Input, known, literal, literals, clauseOf, valuesIn, wrong, rowClauses, gate}
-use Rattle.cnf.proofs.Clauses.{Nonzero, Every, EveryIn, every-in-concat, all-hold-concat, numbers-concat}
+use Rattle.cnf.proofs.Clauses.{Nonzero, Every, EveryIn, every-in-concat, all-hold-concat, numbers-concat, Some, SomeIn, some-left, some-right, some-in-concat}
 use Rattle.cnf.proofs.Rows.{ownRow, own-row-lt, own-row, clause-value, length-clause, every-clause, inputValue, EveryInput, every-literal, own-values, own-output}
 
 -- ---- the gate lemma
@@ -187,3 +189,46 @@ module _ (f : List Bool → Bool) (is : List Input) (out : ℤ) where
       row-length row l =
           length-numbers-row (wrong f is row) (clauseOf (literals is ++ (out ∷ [])) row)
           ∙ ap (λ (n : ℕ). n * value (wrong f is row)) (many row)
+
+-- ---- the output occurs
+
+-- the last literal of a row's clause is the output's, as it is or negated
+some-clause : (P : ℤ → Type 0) → ((l : ℤ) → P l → P (negℤ l)) → (ls : List ℤ) (out : ℤ) (row : ℕ) → P out
+    → Some P (clauseOf (ls ++ (out ∷ [])) row)
+unfolding clauseOf
+some-clause P neg [] out row h = (0, omega arith, at (bit row 0))
+  where
+    at : (b : Bool) → P (cond b (negℤ out) out)
+    at true = neg out h
+    at false = h
+some-clause P neg (l ∷ ls) out row h =
+    some-right P (cond (bit row (length (ls ++ (out ∷ [])))) (negℤ l) l ∷ []) (clauseOf (ls ++ (out ∷ [])) row)
+    (some-clause P neg ls out row h)
+
+-- of the first two rows one is wrong
+wrong-row : (f : List Bool → Bool) (is : List Input) → (row : ℕ) × (row < 2) × (wrong f is row ≡ true)
+unfolding low
+wrong-row f is = at (wrong f is (low false 0)) refl
+  where
+    at : (b : Bool) → wrong f is (low false 0) ≡ b → (row : ℕ) × (row < 2) × (wrong f is row ≡ true)
+    at true e = (0, omega arith, e)
+    at false e = (1, omega arith, value-inj (wrong f is (low true 0)) true (omega (arith, one-wrong f is 0, ap value e)))
+
+-- whatever holds of the output, and of a literal negated too, holds of a number in the clauses
+pub some-gate : (P : ℤ → Type 0) → ((l : ℤ) → P l → P (negℤ l)) → (f : List Bool → Bool) (is : List Input) (out : ℤ) → P out
+    → SomeIn P (gate f is out)
+unfolding gate rowClauses numbers
+some-gate P neg f is out h = at (wrong-row f is)
+  where
+    first-two : 2 ≤ 2 ^ (length (literals is) + 1)
+    first-two = rw (add-one (length (literals is))) (omega (arith, pow-pos (length (literals is))))
+
+    row-gives : (w : Bool) (c : List ℤ) → w ≡ true → Some P c → SomeIn P (cond w (c ∷ []) [])
+    row-gives true c e s = some-left P c (pos zero ∷ []) s
+    row-gives false c e s = absurd (true≢false (sym e))
+
+    at : (row : ℕ) × (row < 2) × (wrong f is row ≡ true)
+        → SomeIn P (concat (2 ^ (length (literals is) + 1)) (rowClauses f is out))
+    at (row, l, e) =
+        some-in-concat P (2 ^ (length (literals is) + 1)) (rowClauses f is out) row (omega (arith, first-two))
+        (row-gives (wrong f is row) (clauseOf (literals is ++ (out ∷ [])) row) e (some-clause P neg (literals is) out row h))
