@@ -11,6 +11,7 @@ use Rattle.sheet.specs.Asking.Verdict.{accepted, refused}
 use Rattle.sheet.specs.Fields.{headerOf}
 use Rattle.sheet.specs.Questions.{questions, lineNumberQuestions, roomQuestions, startQuestions}
 use Rattle.sheet.specs.Answers.{readingMeans, refusalOf, IsAccepted}
+use Rattle.sheet.specs.Facts.{SheetRead}
 use Rattle.sheet.specs.declared.Header.{Header}
 use Rattle.sheet.specs.declared.Refusal.{Refusal}
 use Rattle.sheet.specs.declared.Mode.the-variants.{Read}
@@ -19,6 +20,7 @@ use Rattle.sheet.specs.declared.Reading.the-variants.{Accepted, Refused}
 use Rattle.sheet.proofs.Asking.{go-on, stop, yes-first, yes-verdict, Comes, comes}
 use Rattle.sheet.proofs.Asking.Comes.{done, yes, no}
 use Rattle.sheet.proofs.Answering.{asked}
+use Rattle.sheet.proofs.WellFormed.{has-read}
 
 module _ (s : List ℕ) (r : Reading) (read : readingMeans r ≡ verdict (questions Read s) (headerOf s)) where
   -- a sheet that reading refuses, the call refuses with the same number and place
@@ -33,9 +35,9 @@ module _ (s : List ℕ) (r : Reading) (read : readingMeans r ≡ verdict (questi
       → refused (refusalOf r .number) (refusalOf r .place) ≡ verdict (questions Read s) a
   refused-alone a v e = refused-by-reading [] a v e ∙ ap (λ qs. verdict qs a) (append-nil (questions Read s))
 
-  -- a sheet that reading accepts is an accepted one, with the parts that reading gave
-  pub accepted-by-reading : (g : Header) → r ≡ Accepted g → IsAccepted s × (headerOf s ≡ g)
-  accepted-by-reading g e = asked (questions Read s) (headerOf s) r g read e
+  -- a sheet that reading accepts was read, with the parts that reading gave
+  pub was-read : (h : Header) → r ≡ Accepted h → SheetRead s h
+  was-read h e = let yes = asked (questions Read s) (headerOf s) r h read e in has-read s h (yes .0) (yes .1)
 
 -- of an accepted sheet the call's own questions are asked
 pub own-questions : {A : Type 0} (s : List ℕ) (own : List Question) (a : A) {v : Verdict A}

@@ -18,6 +18,7 @@ use Rattle.trail.proofs.KindNumbers.{known}
 use Rattle.sheet.specs.Asking.{allYes}
 use Rattle.sheet.specs.Fields.{headerOf, inputDifference, recordOf, lineOf, trailOf}
 use Rattle.sheet.specs.Questions.{lengthQuestions, checkQuestions, inputRight, headerQuestions, operandsEarlier, operandsDiffer, amountRight, constantRight, unusedZero, recordQuestions, lineQuestions, laterQuestions, questions}
+use Rattle.sheet.specs.Answers.{IsAccepted}
 use Rattle.sheet.specs.Facts.{Whole, Limited, SheetRead}
 use Rattle.sheet.specs.declared.Header.{Header}
 use Rattle.sheet.specs.declared.Record.{Record}
@@ -127,26 +128,23 @@ module _ (mode : Mode) (s : List ℕ) (e : allYes (questions mode s) ≡ true) w
 
 -- ---- the sheet that reading accepted, by the parts that it gave
 
-module _ (s : List ℕ) (h : Header) (read : SheetRead s h) where
-  pub read-width : trailOf s .width ≡ h .width
-  unfolding trailOf
-  read-width = ap (λ (p : Header). p .width) (read .parts)
+pub has-read : (s : List ℕ) (h : Header) → IsAccepted s → headerOf s ≡ h → SheetRead s h
+unfolding trailOf
+has-read s h accepted parts = record {
+  accepted = accepted;
+  parts = parts;
+  blocks = subst (Whole s) parts (accepted-whole Read s accepted);
+  limits = subst Limited parts (accepted-limited Read s accepted);
+  well-formed = accepted-well-formed Read s accepted;
+  width = ap (λ (p : Header). p .width) parts;
+  inputs = trail-inputs s ∙ ap (λ (p : Header). p .inputs) parts;
+  lines = trail-lines s ∙ ap (λ (p : Header). p .lines) parts;
+}
 
-  pub read-inputs : inputCount (trailOf s) ≡ h .inputs
-  read-inputs = trail-inputs s ∙ ap (λ (p : Header). p .inputs) (read .parts)
-
-  pub read-lines : lineCount (trailOf s) ≡ h .lines
-  read-lines = trail-lines s ∙ ap (λ (p : Header). p .lines) (read .parts)
-
-  pub read-limited : Limited h
-  read-limited = subst Limited (read .parts) (accepted-limited Read s (read .accepted))
-
-  pub read-well-formed : WellFormed (trailOf s)
-  read-well-formed = accepted-well-formed Read s (read .accepted)
-
-  pub line-at-right : (k : ℕ) → k < h .lines → {l : Line} → l ≡ lineAt (trailOf s) k → WellFormedLine (h .width) (h .inputs + k) l
-  line-at-right k less e =
-      subst (WellFormedLine (h .width) (h .inputs + k)) (sym e)
-      (subst (λ (n : ℕ). WellFormedLine n (h .inputs + k) (lineAt (trailOf s) k)) read-width
-      (subst (λ (m : ℕ). WellFormedLine (trailOf s .width) (m + k) (lineAt (trailOf s) k)) read-inputs
-      (read-well-formed .lines-right k (omega (arith, read-lines)))))
+pub line-at-right : (s : List ℕ) (h : Header) → SheetRead s h → (k : ℕ) → k < h .lines → {l : Line} → l ≡ lineAt (trailOf s) k
+    → WellFormedLine (h .width) (h .inputs + k) l
+line-at-right s h read k less e =
+    subst (WellFormedLine (h .width) (h .inputs + k)) (sym e)
+    (subst (λ (n : ℕ). WellFormedLine n (h .inputs + k) (lineAt (trailOf s) k)) (read .width)
+    (subst (λ (m : ℕ). WellFormedLine (trailOf s .width) (m + k) (lineAt (trailOf s) k)) (read .inputs)
+    (read .well-formed .lines-right k (omega arith))))

@@ -12,7 +12,7 @@ use Rattle.trail.specs.Runs.{wordOfLine}
 use Rattle.sheet.specs.declared.Header.{Header}
 use Rattle.sheet.specs.Fields.{trailOf}
 use Rattle.sheet.specs.Facts.{SheetRead}
-use Rattle.sheet.proofs.WellFormed.{read-width, read-inputs, read-limited, line-at-right}
+use Rattle.sheet.proofs.WellFormed.{line-at-right}
 use Rattle.runs.specs.Facts.{withLine}
 use Rattle.runs.proofs.lines.run_line.Statement.{statement}
 use Rattle.runs.proofs.lines.run_line.Tie as tie
@@ -25,9 +25,9 @@ unfolding wordOfLine
 made s h read k {l} e words (p, q) =
     let word =
     p
-    ∙ ap (λ (n : ℕ). makes n l (getD words (l .first) 0) (getD words (l .second) 0)) (sym (read-width s h read))
+    ∙ ap (λ (n : ℕ). makes n l (getD words (l .first) 0) (getD words (l .second) 0)) (sym (read .width))
     ∙ ap (λ (z : Line). makes (trailOf s .width) z (getD words (z .first) 0) (getD words (z .second) 0)) e in
-    (word, q ∙ ap₂ (λ (m w : ℕ). set words (m + k) w) (sym (read-inputs s h read)) word)
+    (word, q ∙ ap₂ (λ (m w : ℕ). set words (m + k) w) (sym (read .inputs)) word)
 
 line-at-requires : tie.Need-line-at-requires
 line-at-requires c κs = search needs
@@ -35,20 +35,17 @@ line-at-requires c κs = search needs
 add-word : tie.Need-add-word
 add-word c =
     let start = c .before .before .before in
-    let limits = read-limited _ _ (start .pre .0) in
     omega arith
 
 make-word-requires : tie.Need-make-word-requires
 make-word-requires c κs =
     let start = c .before .before .before .before in
-    let limits = read-limited _ _ (start .pre .0) in
     let line = line-at-right _ _ (start .pre .0) _ (start .pre .1) (c .before .before .line-at .ensures) in
     (omega arith, omega arith, omega arith, line, start .pre .2)
 
 make-word-requires-2 : tie.Need-make-word-requires-2
 make-word-requires-2 c κs =
     let start = c .before .before .before .before .before .before in
-    let limits = read-limited _ _ (start .pre .0) in
     let line = line-at-right _ _ (start .pre .0) _ (start .pre .1) (c .before .before .before .before .line-at .ensures) in
     (omega arith, omega arith, omega arith, line, start .pre .3)
 

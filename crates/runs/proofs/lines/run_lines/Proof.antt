@@ -12,7 +12,6 @@ use Rattle.trail.specs.Runs.{partner, lineFollows}
 use Rattle.trail.proofs.Runs.{partner-start}
 use Rattle.sheet.specs.Asking.Verdict.{accepted}
 use Rattle.sheet.specs.Fields.{trailOf}
-use Rattle.sheet.proofs.WellFormed.{read-width, read-inputs, read-lines, read-limited, read-well-formed}
 use Rattle.runs.specs.Outcome.{disagrees}
 use Rattle.runs.specs.Facts.{Made, Holds}
 use Rattle.runs.proofs.MadeWords.{made-holds, made-line, apart-bit}
@@ -44,7 +43,7 @@ lines-holds c =
     let start = c .before .before .before .before .before in
     let t = trailOf (start .args .sheet .now) in
     let x = start .args .start .now in
-    let made : start .args .header .inputs ≡ inputCount t + 0 = omega (arith, read-inputs _ _ (start .pre .0)) in (
+    let made : start .args .header .inputs ≡ inputCount t + 0 = omega arith in (
       search needs,
       rw made at (c .begin .ensures .0),
       rw made at (c .begin .ensures .1),
@@ -59,10 +58,9 @@ run-line-requires c κs =
     let h = start .args .header in
     let read = start .pre .0 in
     let x = start .args .start .now in
-    let good = read-well-formed s h read in
-    let lines = read-lines s h read in
+    let good = read .well-formed in
     let holds : (words : List ℕ) → Holds (trailOf s .width) (inputCount (trailOf s) + at .k) words → Holds (h .width) (h .inputs + at .k) words =
-    λ words w. rw (read-width s h read, read-inputs s h read) at w in (
+    λ words w. rw (read .width, read .inputs) at w in (
       read,
       omega arith,
       holds (at .first) (made-holds good x (start .pre .1) (inputCount (trailOf s) + at .k) (at .first) (omega arith) (at .inv .1)),
@@ -73,7 +71,7 @@ bits-holds : tie.Need-bits-holds Inv-bits μ-bits Inv-lines μ-lines
 bits-holds c = (search needs, below-none _)
 
 bit-requires : tie.Need-bit-requires Inv-bits μ-bits Inv-lines μ-lines
-bit-requires c κs = omega (arith, read-limited _ _ (c .before .before .before .before .before .before .before .before .before .before .before .before .pre .0) .width-most)
+bit-requires c κs = omega arith
 
 add-i : tie.Need-add-i Inv-bits μ-bits Inv-lines μ-lines
 add-i c = search needs
@@ -100,11 +98,7 @@ lines-again c =
     let read = start .pre .0 in
     let t = trailOf s in
     let x = start .args .start .now in
-    let good = read-well-formed s h read in
-    let lines = read-lines s h read in
-    let inputs = read-inputs s h read in
-    let width = read-width s h read in
-    let limits = read-limited s h read in
+    let good = read .well-formed in
     let less : at .k < lineCount t = omega arith in
     let room : inputCount t + at .k < 256 = omega arith in
     let made = c .before .before .run-line .ensures in
@@ -124,7 +118,6 @@ returns c =
     let at = c .before .lines in
     let s = start .args .sheet .now in
     let x = start .args .start .now in
-    let lines = read-lines s (start .args .header) (start .pre .0) in
     ap accepted (sym (outcome-follows (trailOf s) x (all-follow (trailOf s) x (λ l less. at .inv .3 l (omega arith)))))
 
 returns-2 : tie.Need-returns-2 Inv-bits μ-bits Inv-lines μ-lines
@@ -137,9 +130,7 @@ returns-2 c =
     let t = trailOf s in
     let x = start .args .start .now in
     let i = c .before .before .before .bits .i in
-    let good = read-well-formed s h read in
-    let lines = read-lines s h read in
-    let width = read-width s h read in
+    let good = read .well-formed in
     let less : at .k < lineCount t = omega arith in
     let apart : (j : ℕ) → disagrees t x (at .k) j ≡ bit (c .before .before .before .before .run-line .result) j =
     λ j. sym (apart-bit good x (start .pre .1) (at .k) less (at .inv .1) (at .inv .2) j)

@@ -9,7 +9,6 @@ use Rattle.trail.specs.Runs.{partner}
 use Rattle.trail.proofs.Runs.{run-input, start-length, length-partner, getD-partner}
 use Rattle.trail.proofs.Differences.{difference-input}
 use Rattle.sheet.specs.Fields.{trailOf}
-use Rattle.sheet.proofs.WellFormed.{read-inputs, read-limited}
 use Rattle.runs.specs.Facts.{Made}
 use Rattle.runs.proofs.MadeWords.{made-none, made-next}
 use Rattle.runs.proofs.start.begin.Statement.{statement}
@@ -26,27 +25,27 @@ loop-holds : tie.Need-loop-holds Inv-loop μ-loop
 loop-holds c = (omega arith, made-none _ _ _ (c .before .before .pre .2), made-none _ _ _ (c .before .before .pre .3))
 
 mul-word : tie.Need-mul-word Inv-loop μ-loop
-mul-word c = omega (arith, read-limited _ _ (c .before .before .before .before .pre .0) .inputs-most)
+mul-word c = omega arith
 
 shared-slice-read-word : tie.Need-shared-slice-read-word Inv-loop μ-loop
 shared-slice-read-word c =
     let start = c .before .before .before .before .before in
-    omega (arith, read-inputs _ _ (start .pre .0), start-length _ _ (start .pre .1))
+    omega (arith, start-length _ _ (start .pre .1))
 
 mul-first : tie.Need-mul-first Inv-loop μ-loop
-mul-first c = omega (arith, read-limited _ _ (c .before .before .before .before .before .pre .0) .inputs-most)
+mul-first c = omega arith
 
 element-write-first : tie.Need-element-write-first Inv-loop μ-loop
-element-write-first c = omega (arith, read-limited _ _ (c .before .before .before .before .before .pre .0) .inputs-most)
+element-write-first c = omega arith
 
 difference-at-requires : tie.Need-difference-at-requires Inv-loop μ-loop
 difference-at-requires c κs = (c .before .before .before .before .before .pre .0, omega arith)
 
 mul-second : tie.Need-mul-second Inv-loop μ-loop
-mul-second c = omega (arith, read-limited _ _ (c .before .before .before .before .before .before .pre .0) .inputs-most)
+mul-second c = omega arith
 
 element-write-second : tie.Need-element-write-second Inv-loop μ-loop
-element-write-second c = omega (arith, read-limited _ _ (c .before .before .before .before .before .before .pre .0) .inputs-most)
+element-write-second c = omega arith
 
 add-j : tie.Need-add-j Inv-loop μ-loop
 add-j c = search needs
@@ -61,8 +60,6 @@ loop-again c =
     let s = start .args .sheet .now in
     let x = start .args .start .now in
     let t = trailOf s in
-    let few = read-limited _ _ (start .pre .0) .inputs-most in
-    let inputs = read-inputs _ _ (start .pre .0) in
     let among : at .j < length x = omega (arith, start-length t x (start .pre .1)) in
     let difference = c .difference-at .ensures ∙ difference-input t (at .j) (omega arith) in
     let second = run-input t (partner t x) (at .j) (omega (arith, length-partner t x)) ∙ getD-partner t x (at .j) among in (
