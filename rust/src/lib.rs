@@ -8,16 +8,17 @@
 //! | --- | --- | --- |
 //! | `read` | asks all questions about a sheet | its lines |
 //! | `seal` | writes the blocks' checks | its blocks |
-//! | `line_report` | one line's report, 16 bytes | 16 |
-//! | `report` | all lines' reports | bytes written |
-//! | `totals` | impossible lines, weight in sixteenths, chains | 3 |
-//! | `two_runs` | runs a starting value along the trail | 3 |
-//! | `clause_counts` | variables and clauses of the sheet | 2 |
-//! | `line_clauses` | one line's clauses for a SAT solver | numbers written |
+//! | `line_report` | one line's report | a [`LineReport`] |
+//! | `reports` | all lines' reports | a [`LineReport`] for each line |
+//! | `totals` | impossible lines, weight in sixteenths, chains | [`Totals`] |
+//! | `two_runs` | runs a starting value along the trail | [`Runs`] |
+//! | `clause_counts` | variables and clauses of the sheet | [`ClauseCounts`] |
+//! | `line_clauses` | one line's clauses for a SAT solver | its numbers |
 //!
-//! A call that is refused returns a [`Refusal`] and leaves every lent byte as
-//! it was; one that succeeds writes from the start of the lent buffer and
-//! leaves the rest.
+//! A call that is refused returns a [`Refusal`], and leaves every byte of a
+//! sheet as it was. The module `slices` has the same calls over buffers that
+//! the caller holds: they write from the start of the lent buffer and leave the
+//! rest, and on a refusal all of it.
 //!
 //! The calls are there when the build has found the archive: in the folder that
 //! `TABLEGULL_LIB` names, or else in `../target/staticlib`.
@@ -38,11 +39,16 @@
 
 use std::fmt;
 
+mod answers;
 pub mod builder;
 #[cfg(has_archive)]
 pub mod ffi;
 pub mod reference;
+#[cfg(has_archive)]
+pub mod slices;
 pub mod text;
+
+pub use answers::{ClauseCounts, LineReport, Runs, Sixteenths, Totals, WholeBits};
 
 /// Bytes of the longest sheet.
 pub const MAX_SHEET: usize = 4608;
@@ -104,122 +110,88 @@ impl fmt::Display for Refusal {
 
 impl std::error::Error for Refusal {}
 
-#[cfg(has_archive)]
-fn outcome(answer: ffi::Answer) -> Result<usize, Refusal> {
-    if answer.number == 0 {
-        debug_assert_eq!(answer.place, 0, "success has place 0");
-        Ok(answer.count as usize)
-    } else {
-        debug_assert_eq!(answer.count, 0, "a refusal has count 0");
-        Err(Refusal {
-            number: answer.number,
-            place: answer.place,
-        })
-    }
-}
-
-// In every call below the pointers and lengths come from slices. A slice's
-// pointer is aligned and never null, its length is true, and Rust's borrowing
-// keeps a slice that is written apart from all the others: just what the
-// header asks of a caller.
+// In the calls below the buffer is as long as the answer, so that 18 is never
+// the refusal.
 
 /// Reads a sheet and answers its number of lines.
 #[cfg(has_archive)]
 pub fn read(sheet: &[u8]) -> Result<usize, Refusal> {
-    // SAFETY: pointer and length are one slice's.
-    outcome(unsafe { ffi::tablegull_read(sheet.as_ptr(), sheet.len()) })
+    slices::read(sheet)
 }
 
 /// Seals a sheet: asks all questions but the one about checks, then writes the
 /// checks. Answers the number of blocks.
 #[cfg(has_archive)]
 pub fn seal(sheet: &mut [u8]) -> Result<usize, Refusal> {
-    // SAFETY: pointer and length are one slice's, borrowed for writing.
-    outcome(unsafe { ffi::tablegull_seal(sheet.as_mut_ptr(), sheet.len()) })
+    slices::seal(sheet)
 }
 
-/// Writes one line's report: a byte 0 impossible, 1 certain, 2 halves or
-/// 3 counted; a zero byte; chains (16 bits); weight in sixteenths (32 bits);
-/// N (64 bits), little-endian. Answers 16.
+/// One line's report.
 #[cfg(has_archive)]
-pub fn line_report(sheet: &[u8], line: usize, out: &mut [u8]) -> Result<usize, Refusal> {
-    // SAFETY: each pointer and length are one slice's, and `out` is borrowed
-    // for writing.
-    outcome(unsafe {
-        ffi::tablegull_line_report(
-            sheet.as_ptr(),
-            sheet.len(),
-            line as u64,
-            out.as_mut_ptr(),
-            out.len(),
-        )
-    })
+pub fn line_report(sheet: &[u8], line: usize) -> Result<LineReport, Refusal> {
+    let mut bytes = [0; LINE_REPORT];
+    slices::line_report(sheet, line, &mut bytes)?;
+    Ok(LineReport::from_bytes(&bytes).expect("the archive writes one of four reports"))
 }
 
-/// Writes the reports of all lines in order, 16 bytes each. Answers the number
-/// of bytes written.
+/// The reports of all lines, in order.
 #[cfg(has_archive)]
-pub fn report(sheet: &[u8], out: &mut [u8]) -> Result<usize, Refusal> {
-    // SAFETY: each pointer and length are one slice's, and `out` is borrowed
-    // for writing.
-    outcome(unsafe {
-        ffi::tablegull_report(sheet.as_ptr(), sheet.len(), out.as_mut_ptr(), out.len())
-    })
+pub fn reports(sheet: &[u8]) -> Result<Vec<LineReport>, Refusal> {
+    let mut bytes = [0; MAX_LINES * LINE_REPORT];
+    let count = slices::report(sheet, &mut bytes)?;
+    Ok(bytes[..count]
+        .chunks_exact(LINE_REPORT)
+        .map(|line| {
+            let line = line.try_into().expect("a chunk of that length");
+            LineReport::from_bytes(line).expect("the archive writes one of four reports")
+        })
+        .collect())
 }
 
-/// Writes the sheet's totals: impossible lines, the others' weight in
-/// sixteenths of a bit, chains. Answers 3.
+/// The sheet's totals.
 #[cfg(has_archive)]
-pub fn totals(sheet: &[u8], out: &mut [u64]) -> Result<usize, Refusal> {
-    // SAFETY: each pointer and length are one slice's, and `out` is borrowed
-    // for writing.
-    outcome(unsafe {
-        ffi::tablegull_totals(sheet.as_ptr(), sheet.len(), out.as_mut_ptr(), out.len())
+pub fn totals(sheet: &[u8]) -> Result<Totals, Refusal> {
+    let mut words = [0; 3];
+    slices::totals(sheet, &mut words)?;
+    let [impossible, weight, chains] = words;
+    Ok(Totals {
+        impossible,
+        weight: Sixteenths(weight),
+        chains,
     })
 }
 
 /// Runs the program on the starting words and on the starting words XOR the
-/// input differences. Writes 1, 0, 0 if the two runs follow the trail, else 0
-/// with the first line and its lowest bit where they disagree. Answers 3.
+/// input differences.
 #[cfg(has_archive)]
-pub fn two_runs(sheet: &[u8], start: &[u64], out: &mut [u64]) -> Result<usize, Refusal> {
-    // SAFETY: each pointer and length are one slice's, and `out` is borrowed
-    // for writing.
-    outcome(unsafe {
-        ffi::tablegull_two_runs(
-            sheet.as_ptr(),
-            sheet.len(),
-            start.as_ptr(),
-            start.len(),
-            out.as_mut_ptr(),
-            out.len(),
-        )
+pub fn two_runs(sheet: &[u8], start: &[u64]) -> Result<Runs, Refusal> {
+    let mut words = [0; 3];
+    slices::two_runs(sheet, start, &mut words)?;
+    let [follows, line, bit] = words;
+    Ok(if follows == 1 {
+        Runs::Follow
+    } else {
+        Runs::Disagree {
+            line: line as usize,
+            bit: bit as u32,
+        }
     })
 }
 
-/// Writes the numbers of the sheet's variables and clauses. Answers 2.
+/// The numbers of the sheet's variables and clauses.
 #[cfg(has_archive)]
-pub fn clause_counts(sheet: &[u8], out: &mut [u64]) -> Result<usize, Refusal> {
-    // SAFETY: each pointer and length are one slice's, and `out` is borrowed
-    // for writing.
-    outcome(unsafe {
-        ffi::tablegull_clause_counts(sheet.as_ptr(), sheet.len(), out.as_mut_ptr(), out.len())
-    })
+pub fn clause_counts(sheet: &[u8]) -> Result<ClauseCounts, Refusal> {
+    let mut words = [0; 2];
+    slices::clause_counts(sheet, &mut words)?;
+    let [variables, clauses] = words;
+    Ok(ClauseCounts { variables, clauses })
 }
 
-/// Writes one line's clauses, each followed by 0. Answers the count of numbers
-/// written, at most [`MAX_LINE_CLAUSES`].
+/// One line's clauses, each followed by 0.
 #[cfg(has_archive)]
-pub fn line_clauses(sheet: &[u8], line: usize, out: &mut [i32]) -> Result<usize, Refusal> {
-    // SAFETY: each pointer and length are one slice's, and `out` is borrowed
-    // for writing.
-    outcome(unsafe {
-        ffi::tablegull_line_clauses(
-            sheet.as_ptr(),
-            sheet.len(),
-            line as u64,
-            out.as_mut_ptr(),
-            out.len(),
-        )
-    })
+pub fn line_clauses(sheet: &[u8], line: usize) -> Result<Vec<i32>, Refusal> {
+    let mut numbers = vec![0; MAX_LINE_CLAUSES];
+    let count = slices::line_clauses(sheet, line, &mut numbers)?;
+    numbers.truncate(count);
+    Ok(numbers)
 }

@@ -82,9 +82,9 @@ const REFERENCE: Calls = Calls {
 
 #[cfg(has_archive)]
 const ARCHIVE: Option<Calls> = Some(Calls {
-    read: tablegull::read,
-    report: tablegull::report,
-    line_clauses: tablegull::line_clauses,
+    read: tablegull::slices::read,
+    report: tablegull::slices::report,
+    line_clauses: tablegull::slices::line_clauses,
 });
 
 #[cfg(not(has_archive))]

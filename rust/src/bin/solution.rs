@@ -160,7 +160,7 @@ fn follow(sheet: &[u8], start: &[u64]) -> Result<bool, String> {
 #[cfg(has_archive)]
 fn compare_with_archive(sheet: &[u8], start: &[u64], expected: [u64; 3]) -> Result<(), String> {
     let mut answer = [0; 3];
-    tablegull::two_runs(sheet, start, &mut answer)
+    tablegull::slices::two_runs(sheet, start, &mut answer)
         .map_err(|refusal| format!("the archive answers {refusal}"))?;
     if answer == expected {
         Ok(())

@@ -38,14 +38,14 @@ pub const REFERENCE: Calls = Calls {
 #[cfg(has_archive)]
 pub const ARCHIVE: Calls = Calls {
     name: "archive",
-    read: tablegull::read,
-    seal: tablegull::seal,
-    line_report: tablegull::line_report,
-    report: tablegull::report,
-    totals: tablegull::totals,
-    two_runs: tablegull::two_runs,
-    clause_counts: tablegull::clause_counts,
-    line_clauses: tablegull::line_clauses,
+    read: tablegull::slices::read,
+    seal: tablegull::slices::seal,
+    line_report: tablegull::slices::line_report,
+    report: tablegull::slices::report,
+    totals: tablegull::slices::totals,
+    two_runs: tablegull::slices::two_runs,
+    clause_counts: tablegull::slices::clause_counts,
+    line_clauses: tablegull::slices::line_clauses,
 };
 
 /// The reference, and the archive where it is there.

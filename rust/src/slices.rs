@@ -1,0 +1,118 @@
+//! The archive's calls over slices: each writes into what it is lent, and answers
+//! what the header calls count.
+//!
+//! The calls at the root of this crate are made of these; they are for callers
+//! that hold the buffers themselves.
+
+use crate::{ffi, Refusal};
+
+fn outcome(answer: ffi::Answer) -> Result<usize, Refusal> {
+    if answer.number == 0 {
+        debug_assert_eq!(answer.place, 0, "success has place 0");
+        Ok(answer.count as usize)
+    } else {
+        debug_assert_eq!(answer.count, 0, "a refusal has count 0");
+        Err(Refusal {
+            number: answer.number,
+            place: answer.place,
+        })
+    }
+}
+
+// In every call below the pointers and lengths come from slices. A slice's
+// pointer is aligned and never null, its length is true, and Rust's borrowing
+// keeps a slice that is written apart from all the others: just what the
+// header asks of a caller.
+
+/// Reads a sheet and answers its number of lines.
+pub fn read(sheet: &[u8]) -> Result<usize, Refusal> {
+    // SAFETY: pointer and length are one slice's.
+    outcome(unsafe { ffi::tablegull_read(sheet.as_ptr(), sheet.len()) })
+}
+
+/// Seals a sheet: asks all questions but the one about checks, then writes the
+/// checks. Answers the number of blocks.
+pub fn seal(sheet: &mut [u8]) -> Result<usize, Refusal> {
+    // SAFETY: pointer and length are one slice's, borrowed for writing.
+    outcome(unsafe { ffi::tablegull_seal(sheet.as_mut_ptr(), sheet.len()) })
+}
+
+/// Writes one line's report: a byte 0 impossible, 1 certain, 2 halves or
+/// 3 counted; a zero byte; chains (16 bits); weight in sixteenths (32 bits);
+/// N (64 bits), little-endian. Answers 16.
+pub fn line_report(sheet: &[u8], line: usize, out: &mut [u8]) -> Result<usize, Refusal> {
+    // SAFETY: each pointer and length are one slice's, and `out` is borrowed
+    // for writing.
+    outcome(unsafe {
+        ffi::tablegull_line_report(
+            sheet.as_ptr(),
+            sheet.len(),
+            line as u64,
+            out.as_mut_ptr(),
+            out.len(),
+        )
+    })
+}
+
+/// Writes the reports of all lines in order, 16 bytes each. Answers the number
+/// of bytes written.
+pub fn report(sheet: &[u8], out: &mut [u8]) -> Result<usize, Refusal> {
+    // SAFETY: each pointer and length are one slice's, and `out` is borrowed
+    // for writing.
+    outcome(unsafe {
+        ffi::tablegull_report(sheet.as_ptr(), sheet.len(), out.as_mut_ptr(), out.len())
+    })
+}
+
+/// Writes the sheet's totals: impossible lines, the others' weight in
+/// sixteenths of a bit, chains. Answers 3.
+pub fn totals(sheet: &[u8], out: &mut [u64]) -> Result<usize, Refusal> {
+    // SAFETY: each pointer and length are one slice's, and `out` is borrowed
+    // for writing.
+    outcome(unsafe {
+        ffi::tablegull_totals(sheet.as_ptr(), sheet.len(), out.as_mut_ptr(), out.len())
+    })
+}
+
+/// Runs the program on the starting words and on the starting words XOR the
+/// input differences. Writes 1, 0, 0 if the two runs follow the trail, else 0
+/// with the first line and its lowest bit where they disagree. Answers 3.
+pub fn two_runs(sheet: &[u8], start: &[u64], out: &mut [u64]) -> Result<usize, Refusal> {
+    // SAFETY: each pointer and length are one slice's, and `out` is borrowed
+    // for writing.
+    outcome(unsafe {
+        ffi::tablegull_two_runs(
+            sheet.as_ptr(),
+            sheet.len(),
+            start.as_ptr(),
+            start.len(),
+            out.as_mut_ptr(),
+            out.len(),
+        )
+    })
+}
+
+/// Writes the numbers of the sheet's variables and clauses. Answers 2.
+pub fn clause_counts(sheet: &[u8], out: &mut [u64]) -> Result<usize, Refusal> {
+    // SAFETY: each pointer and length are one slice's, and `out` is borrowed
+    // for writing.
+    outcome(unsafe {
+        ffi::tablegull_clause_counts(sheet.as_ptr(), sheet.len(), out.as_mut_ptr(), out.len())
+    })
+}
+
+/// Writes one line's clauses, each followed by 0. Answers the count of numbers
+/// written, at most [`MAX_LINE_CLAUSES`](crate::MAX_LINE_CLAUSES).
+pub fn line_clauses(sheet: &[u8], line: usize, out: &mut [i32]) -> Result<usize, Refusal> {
+    // SAFETY: each pointer and length are one slice's, and `out` is borrowed
+    // for writing.
+    outcome(unsafe {
+        ffi::tablegull_line_clauses(
+            sheet.as_ptr(),
+            sheet.len(),
+            line as u64,
+            out.as_mut_ptr(),
+            out.len(),
+        )
+    })
+}

@@ -1,0 +1,89 @@
+//! The calls with answers of their own types say what the calls over slices
+//! write.
+
+#![cfg(has_archive)]
+
+use tablegull::builder::{Line, SheetBuilder};
+use tablegull::{slices, LineReport, Refusal, Runs, Sixteenths, Totals, WholeBits};
+
+/// At 4 bits: one line for each report, words 0 and 1 as inputs.
+fn sheet() -> Vec<u8> {
+    let mut sheet = SheetBuilder::new(4, &[1, 4]);
+    sheet.line(Line::rotate_left(0, 1, 2));
+    sheet.line(Line::rotate_left(0, 1, 3));
+    sheet.line(Line::add(0, 1, 5));
+    sheet.line(Line::add_constant(1, 3, 12));
+    sheet.seal().expect("a sheet that sealing accepts")
+}
+
+#[test]
+fn reports_have_their_parts() {
+    let expected = [
+        LineReport::Certain,
+        LineReport::Impossible,
+        LineReport::Halves {
+            weight: WholeBits(2),
+        },
+        LineReport::Counted {
+            weight: Sixteenths(8),
+            chains: 1,
+            fitting: 12,
+        },
+    ];
+    assert_eq!(tablegull::reports(&sheet()), Ok(expected.to_vec()));
+    for (line, report) in expected.into_iter().enumerate() {
+        assert_eq!(tablegull::line_report(&sheet(), line), Ok(report));
+    }
+    let refusal = Refusal {
+        number: 17,
+        place: 0,
+    };
+    assert_eq!(tablegull::line_report(&sheet(), 4), Err(refusal));
+    assert_eq!(LineReport::from_bytes(&[4; 16]), None);
+}
+
+#[test]
+fn totals_have_their_names() {
+    let expected = Totals {
+        impossible: 1,
+        weight: Sixteenths(40),
+        chains: 1,
+    };
+    assert_eq!(tablegull::totals(&sheet()), Ok(expected));
+}
+
+#[test]
+fn runs_disagree_or_follow() {
+    let sheet = sheet();
+    let mut words = [0; 3];
+    for start in (0..256).map(|start| [start % 16, start / 16]) {
+        slices::two_runs(&sheet, &start, &mut words).expect("a starting value");
+        let expected = match words {
+            [1, 0, 0] => Runs::Follow,
+            [_, line, bit] => Runs::Disagree {
+                line: line as usize,
+                bit: bit as u32,
+            },
+        };
+        assert_eq!(tablegull::two_runs(&sheet, &start), Ok(expected));
+    }
+    // line 1 is impossible, and its lowest wrong bit is bit 0
+    let disagreement = Runs::Disagree { line: 1, bit: 0 };
+    assert_eq!(tablegull::two_runs(&sheet, &[0, 0]), Ok(disagreement));
+}
+
+#[test]
+fn clauses_have_their_own_length() {
+    let sheet = sheet();
+    let counts = tablegull::clause_counts(&sheet).expect("an accepted sheet");
+    let mut clauses = 0;
+    for line in 0..4 {
+        let numbers = tablegull::line_clauses(&sheet, line).expect("a line of the sheet");
+        let mut lent = [7; tablegull::MAX_LINE_CLAUSES];
+        assert_eq!(slices::line_clauses(&sheet, line, &mut lent), Ok(numbers.len()));
+        assert_eq!(lent[..numbers.len()], numbers[..]);
+        clauses += numbers.iter().filter(|&&number| number == 0).count() as u64;
+    }
+    assert_eq!(counts.clauses, clauses);
+    assert_eq!(counts.variables, 4 * 6 + 2 * 2 * 3);
+}
