@@ -14,13 +14,13 @@ use Rattle.differential.specs.Report.{reporting}
 use Rattle.differential.specs.Report.Reporting.{constant}
 use Rattle.differential.proofs.KindRows.{says}
 
-module _ (d : Differential) (adds : reporting (kindOf (d .line .kind)) ≡ constant) where
+module _ (d : Differential) (how : reporting (kindOf (d .line .kind)) ≡ constant) where
   pub fits-constant : (x y : ℕ)
       → fits d x y ≡ constantFits (d .width) (d .line .constant) (d .first) (d .line .difference) x
   unfolding fits sumModulo
   fits-constant x y =
       ap (λ (z : ℕ). eqb z (d .line .difference))
-      (ap₂ bitXor (says d adds (bitXor x (d .first)) (bitXor y (d .second))) (says d adds x y))
+      (ap₂ bitXor (says d how (bitXor x (d .first)) (bitXor y (d .second))) (says d how x y))
 
   pub fitting-constant : fitting d ≡ constantFitting (d .width) (d .line .constant) (d .first) (d .line .difference)
   unfolding fitting

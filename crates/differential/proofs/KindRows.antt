@@ -13,7 +13,7 @@ use Rattle.differential.proofs.Linear.{Linear, xor-words, xor-constant,
 
 -- ---- the word that a line makes
 
--- a linear kind's differs by the given difference, the others are sums; every line of a known kind is reported
+-- a linear kind's words differ by the given difference, the others are sums; every proper line has a report
 abbrev pub Says : Reporting → Differential → (ℕ → ℕ → ℕ) → Type 0
 Says (linear given) d word = Proper d → Linear d word (given d)
 Says twoWords d word = (x y : ℕ) → word x y ≡ sumModulo (d .width) x y

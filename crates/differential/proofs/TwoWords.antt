@@ -192,7 +192,7 @@ pub weight-less : (n α β γ : ℕ) → 1 ≤ n → wordsWeight n α β γ < n
 unfolding wordsWeight
 weight-less n α β γ h = omega (arith, count-le (n - 1) (λ i. not (allEqual (bit α i) (bit β i) (bit γ i))))
 
-module _ (d : Differential) (adds : reporting (kindOf (d .line .kind)) ≡ twoWords) (least : 1 ≤ d .width) (word : d .line .difference < 2 ^ d .width)
+module _ (d : Differential) (how : reporting (kindOf (d .line .kind)) ≡ twoWords) (least : 1 ≤ d .width) (word : d .line .difference < 2 ^ d .width)
   where
     fits-words : (x y : ℕ) → fits d x y ≡ fitsFrom (d .width) (d .first) (d .second) (d .line .difference) false false x y
     unfolding fits fitsFrom sumModulo
@@ -200,7 +200,7 @@ module _ (d : Differential) (adds : reporting (kindOf (d .line .kind)) ≡ twoWo
         ap₂ eqb (ap₂ bitXor (sum (bitXor x (d .first)) (bitXor y (d .second))) (sum x y)) (sym (mod-eq-of-lt word))
       where
         sum : (x y : ℕ) → makes (d .width) (d .line) x y ≡ (x + y + 0) % 2 ^ d .width
-        sum x y = says d adds x y ∙ ap (λ (z : ℕ). z % 2 ^ d .width) (sym (add-zero (x + y)))
+        sum x y = says d how x y ∙ ap (λ (z : ℕ). z % 2 ^ d .width) (sym (add-zero (x + y)))
 
     -- the pairs that fit, times 2 ^ w, are all pairs; or there is none
     pub pairs-rule : fittingPairs d * 2 ^ wordsWeight (d .width) (d .first) (d .second) (d .line .difference)

@@ -34,12 +34,15 @@ reports-are-local t k r l same =
     q : Kind
     q = kindOf (lineAt t k .kind)
 
+    other-how : reporting (kindOf (lineAt r l .kind)) ≡ reporting q
+    other-how = ap (λ (n : ℕ). reporting (kindOf n)) (sym (same .kind))
+
     at : (p : Reporting) → reporting q ≡ p → Reads p (usesSecond q) → reportBy p (differentialOf t k) ≡ reportBy p (differentialOf r l)
     at (linear given) how reads =
         cc (reads (differentialOf t k) (differentialOf r l) (same .width) (same .amount) (same .first) (same .second))
     at twoWords how used = cc (same .second used)
     at constant how _ =
-        cc (fitting-constant (differentialOf t k) how, fitting-constant (differentialOf r l) (ap (λ (n : ℕ). reporting (kindOf n)) (sym (same .kind)) ∙ how))
+        cc (fitting-constant (differentialOf t k) how, fitting-constant (differentialOf r l) (other-how ∙ how))
     at none how _ = refl
 
 -- the values of a line's report on an accepted sheet
