@@ -2,22 +2,26 @@
 
     python3 tools/program_cases.py
 
-writes stdin and stdout of the crates trail_report and trail_clauses, document 01's example with the text that it prints, and
-of the crate program_cases, which prints the same texts of several sheets. All of it comes from document 01, from this file
-and from oracle/trail.py, an independent reading of the document: nothing that the programs print goes into it.
+writes stdin and stdout of the crates trail_report and trail_clauses, a sheet of 248 lines each; and of the crate
+program_cases, which prints the same texts of several sheets, with the sheets in its folder data. All of it comes from
+document 01, from this file and from oracle/trail.py, an independent reading of the document: nothing that the programs print
+goes into it.
 
-A case of program_cases is a line `NAME: LENGTH OFFSET=VALUE ..`, a sheet whose other bytes are 0. Its name's first word says
-which text is printed after the name, `report` or `clauses`.
+A case of program_cases is a line `TEXT FILE`: the text that is printed, and the file of the sheet. The texts are `report`,
+`clauses`, and `header`, which is the first line of the clauses.
 """
 from pathlib import Path
 
-from oracle.trail import BLOCK, clauses_text, report_text, seal_bytes
-from report_cases import trail
-from sheet_cases import case_line, put, put_field, resized
+from oracle.trail import (BLOCK, MAX_LINES, Line, Sheet, clauses_text, read, report, report_text, seal_bytes, totals,
+                          variables)
+from report_cases import difference_made, some_line, spread, trail
+from sheet_cases import put, put_field
 
 ROOT = Path(__file__).resolve().parent.parent
-# The program's room for its cases, and for the sheet of one.
-MOST_TEXT, MOST_BYTES = 2**17, 5120
+# The program's room for its cases.
+MOST_CASES = 4096
+# The largest width, input count and sheet.
+WIDTH, INPUTS, MOST_BYTES = 32, 8, 4608
 
 # Document 01's example, byte by byte, and what it prints.
 EXAMPLE = (bytes.fromhex("41 52 58 54 02 01 01 00 01") + bytes(499) + bytes.fromhex("44 53 59 54")
@@ -43,43 +47,6 @@ p cnf 6 16
 -2 -6 4 0
 """
 
-TEXTS = {"report": report_text, "clauses": clauses_text}
-
-# The program's two texts, case by case.
-cases, answers = [], []
-
-
-def add(program, name, data, start=""):
-    """A case whose text has to begin so, and so is what its name says."""
-    text = TEXTS[program](data)
-    assert text.startswith(start) and ":" not in name and len(data) <= MOST_BYTES, name
-    cases.append(case_line(f"{program} {name}", data))
-    answers.append(f"{program} {name}:\n{text}")
-
-
-def add_both(name, data, start=""):
-    for program in TEXTS:
-        add(program, name, data, start)
-
-
-def accepted_sheets():
-    add_both("of document 01's example", EXAMPLE)
-    add_both("of 12 lines of all kinds at width 8", trail(8, 2, 12))
-    add("report", "of 248 lines of all kinds at width 32", trail(32, 8, 248))
-    for name, total in (("lea7", "total 0 622 6"), ("lea7_printed", "total 1 574 6")):
-        data = (ROOT / "examples" / f"{name}.sheet").read_bytes()
-        assert report_text(data).endswith(f"\n{total}\n")
-        add("report", f"of {name}", data)
-
-
-def refused_sheets():
-    good = trail(8, 2, 12)
-    add_both("of no bytes", b"", "refused 1 0\n")
-    for size in (4609, 5120):
-        add_both(f"of {size} bytes", resized(good, size), "refused 1 0\n")
-    add_both("with a wrong check in its last block", put(good, 2 * BLOCK - 1, good[-1] ^ 1), "refused 2 1\n")
-    add_both("with kind 7 in line 3", seal_bytes(put_field(good, 3, "kind", 7)), "refused 9 3\n")
-
 
 def write(crate, stdin, stdout):
     (ROOT / "crates" / crate / "stdin").write_bytes(stdin)
@@ -87,12 +54,118 @@ def write(crate, stdin, stdout):
     print(f"{crate}: {len(stdin)} bytes in, {len(stdout)} out")
 
 
+# The programs' own sheets: as long as a sheet can be, and with numbers of as many digits as the text allows, so that a text
+# that is cut short or a number that loses a digit shows.
+
+# The report sheet's input differences: all bits, no bit, every other bit, one bit or two, and two of no such kind.
+ALL_BITS, NO_BIT, OTHER_BITS, FEW_BITS = 0, 1, 2, (3, 4, 5)
+REPORT_INPUTS = [0xFFFFFFFF, 0, 0x55555555, 0x80000000, 0x10000000, 0x00800010, spread(WIDTH, 1), spread(WIDTH, 2)]
+
+
+def report_line(k):
+    """Line k of the report sheet, with values of its operands that the stated difference is to fit. Of twelve lines, one is
+    the sum that costs most, three have most chains, one has a large N, and seven are of any kind."""
+    turn, dozen = k % 12, k // 12
+    if turn == 0:
+        return Line(5, first=ALL_BITS, second=NO_BIT), 0, 0
+    if turn <= 3:
+        return Line(6, first=OTHER_BITS, constant=spread(WIDTH, k) & 0xAAAAAAAA), 0, 0
+    if turn == 4:
+        return Line(6, first=FEW_BITS[dozen % 3], constant=spread(WIDTH, k)), spread(WIDTH, k + 3), 0
+    return some_line(1 + (turn + dozen) % 6, WIDTH, INPUTS + k, k), spread(WIDTH, k + 3), spread(WIDTH, k + 5)
+
+
+def report_sheet():
+    """All reports of all kinds; five lines of twelve are impossible, since their lowest bit is wrong."""
+    sheet = Sheet(WIDTH, REPORT_INPUTS, [])
+    for k in range(MAX_LINES):
+        line, x, y = report_line(k)
+        line.difference = difference_made(sheet, line, x, y) ^ int(k % 12 >= 7)
+        sheet.lines.append(line)
+    kinds = {(number, line.kind) for (number, *_), line in zip(report(sheet), sheet.lines)}
+    assert kinds == {(0, kind) for kind in range(1, 7)} | {(1, kind) for kind in range(1, 5)} | {(2, 5), (3, 6)}
+    most = [max(column) for column in zip(*report(sheet))]
+    assert most == [3, 496, 16, 2**32] and all(least <= total for least, total in zip((100, 10000, 1000), totals(sheet)))
+    return sheet.pack()
+
+
+def clause_kind(k):
+    """Few additions, whose clauses are many, and yet enough of them that their carries have numbers of five digits."""
+    if k % 62 == 61:
+        return 5
+    if k % 9 == 4:
+        return 6
+    return 1 if k % 31 == 0 else 2 + k % 3
+
+
+def clause_sheet():
+    data = trail(WIDTH, INPUTS, MAX_LINES, clause_kind)
+    assert {line.kind for line in read(data).lines} == set(range(1, 7)) and 10000 <= variables(read(data))
+    return data
+
+
+def own_sheets():
+    for crate, data, text in (("trail_report", report_sheet(), report_text), ("trail_clauses", clause_sheet(), clauses_text)):
+        assert len(data) == MOST_BYTES
+        write(crate, data, text(data))
+
+
+# The sheets of program_cases
+
+def header_text(data):
+    return clauses_text(data).split("\n")[0] + "\n"
+
+
+TEXTS = {"report": report_text, "clauses": clauses_text, "header": header_text}
+
+# The program's two texts, case by case.
+cases, answers = [], []
+
+
+def add(name, data, texts, start=""):
+    """Cases of one sheet. Its texts have to begin so, and so it is what its name says."""
+    (ROOT / "crates" / "program_cases" / "data" / f"{name}.sheet").write_bytes(data)
+    for text in texts:
+        assert TEXTS[text](data).startswith(start), name
+        cases.append(f"{text} {name}.sheet\n")
+        answers.append(f"{text} {name}.sheet:\n{TEXTS[text](data)}")
+
+
+def largest():
+    """The most lines, all of the kind that costs most and has most clauses."""
+    line = Line(5, first=ALL_BITS, second=NO_BIT, difference=REPORT_INPUTS[ALL_BITS])
+    return Sheet(WIDTH, REPORT_INPUTS, [line] * MAX_LINES).pack()
+
+
+def accepted_sheets():
+    add("example", EXAMPLE, ("report", "clauses"))
+    add("all_kinds", trail(8, 2, 12), ("report", "clauses"))
+    add("largest", largest(), ("report", "header"))
+    assert answers[-2].endswith("\ntotal 0 123008 0\n") and answers[-1].endswith(":\np cnf 23568 246016\n")
+    for name, total in (("lea7", "total 0 622 6"), ("lea7_printed", "total 1 574 6")):
+        add(name, (ROOT / "examples" / f"{name}.sheet").read_bytes(), ("report",))
+        assert answers[-1].endswith(f"\n{total}\n")
+
+
+def refused_sheets():
+    good = trail(8, 2, 12)
+    for name, data, refusal in (
+        ("no_bytes", b"", "1 0"),
+        ("one_byte_fewer", largest()[:-1], "1 0"),
+        ("one_byte_more", largest() + bytes(1), "1 0"),
+        ("one_block_more", largest() + bytes(BLOCK), "1 0"),
+        ("wrong_check", put(good, 2 * BLOCK - 1, good[-1] ^ 1), "2 1"),
+        ("unknown_kind", seal_bytes(put_field(good, 3, "kind", 7)), "9 3"),
+        ("unused_field", seal_bytes(put_field(largest(), MAX_LINES - 1, "amount", 1)), "15 247"),
+    ):
+        add(name, data, ("report", "clauses"), f"refused {refusal}\n")
+
+
 if __name__ == "__main__":
     assert report_text(EXAMPLE) == EXAMPLE_REPORT and clauses_text(EXAMPLE) == EXAMPLE_CLAUSES
-    write("trail_report", EXAMPLE, EXAMPLE_REPORT)
-    write("trail_clauses", EXAMPLE, EXAMPLE_CLAUSES)
+    own_sheets()
     accepted_sheets()
     refused_sheets()
     given = "".join(cases).encode()
-    assert len(given) <= MOST_TEXT
+    assert len(given) <= MOST_CASES
     write("program_cases", given, "".join(answers))

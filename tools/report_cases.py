@@ -221,18 +221,27 @@ def spread(n, k):
     return k * 2654435761 // 2**7 % 2**n
 
 
-def trail(n, m, count):
+def difference_made(sheet, line, x, y):
+    """By what the line's results differ, where the first run's operands are x and y."""
+    known = sheet.differences()
+    return apply(sheet.n, line, x, y) ^ apply(sheet.n, line, x ^ known[line.first], y ^ known[line.second])
+
+
+def some_line(kind, n, word, k):
+    """A line that makes a word, from the word before it and one about half as far; its difference is still to be stated."""
+    line = Line(kind, first=word - 1)
+    line.amount = 1 + k % (n - 1) if kind in AMOUNT_KINDS else 0
+    line.second = (word - 1) // 2 if kind in TWO_WORD_KINDS else 0
+    line.constant = spread(n, k + 11) if kind in CONSTANT_KINDS else 0
+    return line
+
+
+def trail(n, m, count, kind_of=lambda k: 1 + k % 6):
     """A sheet with lines of all kinds. Most state a difference that some operand values have, every fifth another one."""
     sheet = Sheet(n, [spread(n, j + 1) for j in range(m)], [])
     for k in range(count):
-        kind, last = 1 + k % 6, m + k - 1
-        line = Line(kind, first=last)
-        line.amount = 1 + k % (n - 1) if kind in AMOUNT_KINDS else 0
-        line.second = last // 2 if kind in TWO_WORD_KINDS else 0
-        line.constant = spread(n, k + 11) if kind in CONSTANT_KINDS else 0
-        known, x, y = sheet.differences(), spread(n, k + 3), spread(n, k + 5)
-        line.difference = apply(n, line, x, y) ^ apply(n, line, x ^ known[line.first], y ^ known[line.second])
-        line.difference ^= int(k % 5 == 4)
+        line = some_line(kind_of(k), n, m + k, k)
+        line.difference = difference_made(sheet, line, spread(n, k + 3), spread(n, k + 5)) ^ int(k % 5 == 4)
         sheet.lines.append(line)
     return sheet.pack()
 

@@ -3,8 +3,6 @@ ghost use Prim.Native.Nat.{_≤_};
 use crate::power::digits_of_power;
 use differential::Differential;
 use differential::LineReport;
-use differential::WholeBits;
-use differential::in_sixteenths;
 
 // Whether a report is right where `count` of the 2^bits operand values fit.
 pub fn agrees(d: Differential, bits: u32, report: LineReport, count: u64) -> bool
@@ -32,22 +30,25 @@ fn is_halved(bits: u32, weight: u32, count: u64) -> bool
     count == 1 << (bits - weight)
 }
 
-// Whether 2^(16n - w) <= N^16 <= 2^(16n - w + 3c), where N is the number, w the weight and c the chains.
+// Whether 2^(16n - w) <= N^16 <= 2^(16n - w + 3c), where N is the number, w the weight and c the chains. By binary digits:
+// 2^(16n), the sixteenth power of 2^n, has `all` of them, and 2^(16n - w) has w fewer.
 fn is_bounded(n: u32, weight: u32, chains: u32, number: u64) -> bool
     requires { ⌜ n ≤ 32 ⌝ }
 {
-    let all = in_sixteenths(WholeBits(n));
-    if all.0 < weight {
-        return false;
-    }
     if number == 0 || 1 << 32 < number {
         return false;
     }
-    let least = (all.0 - weight) as u64;
-    let most = least + 3 * (chains as u64);
-    let digits = digits_of_power(number);
-    if digits <= least {
+    let all = digits_of_power(1 << n);
+    let w = weight as u64;
+    if all <= w {
         return false;
     }
-    digits <= most || (digits == most + 1 && u64::count_ones(number) == 1)
+    let least = all - w;
+    let digits = digits_of_power(number);
+    if digits < least {
+        return false;
+    }
+    let above = digits - least;
+    let most = 3 * (chains as u64);
+    above < most || (above == most && u64::count_ones(number) == 1)
 }

@@ -1,4 +1,5 @@
--- Document 01's limits on a trail's clauses (document 01, "Clauses"): no trail of a sheet's size passes them, and one meets them.
+-- How many variables, clauses and numbers there are at most (document 01, "Clauses"): no trail of a sheet's size passes these
+-- limits, and one meets them.
 use Prim.Native.Nat.{ℕ, _≤_, _<_}
 use mathlib.Core.Path.{_≡_}
 use lib.ListN.{length, replicate}
@@ -15,7 +16,7 @@ mostVariables = 23568
 abbrev pub mostClauses : ℕ
 mostClauses = 246016
 
--- One line's list: at most 4,944 numbers.
+-- One line's list as signed 32-bit numbers, no header, at most 4,944 of them.
 abbrev pub mostNumbers : ℕ
 mostNumbers = 4944
 

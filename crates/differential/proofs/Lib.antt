@@ -1,6 +1,7 @@
 pub mod AddingBits
 pub mod TwoWords
 pub mod Linear
+pub mod KindRows
 pub mod RightReports
 pub mod Demand2
 pub mod Starred

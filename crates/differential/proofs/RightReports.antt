@@ -1,5 +1,5 @@
--- Each of the four reports is right where what it says is true and the line's kind allows it.
-use mathlib.Core.Path.{_≡_, refl, sym, ap, _∙_}
+-- Each of the four reports is right where what it says is true and the line's kind is reported so.
+use mathlib.Core.Path.{_≡_, refl, sym, _∙_}
 use mathlib.Core.Logic.{_↔_, _≢_, inl, inr}
 use mathlib.Core.Bool.{true, false, true≢false}
 use Prim.Native.Nat.{ℕ, _-_, _*_, _^_, _<_}
@@ -7,12 +7,11 @@ use native.Mathlib.Omega.{arith}
 use lib.Pow.{pow-pos}
 use Rattle.words.proofs.Below.{count-none}
 use Rattle.words.proofs.Pairs.{pairs-none}
-use Rattle.trail.specs.Kinds.{Kind, kindOf}
-use Rattle.trail.specs.Kinds.Kind.{addWords, addConstant}
-use Rattle.trail.proofs.KindNumbers.{kindNumber}
+use Rattle.trail.specs.Kinds.{kindOf}
 use Rattle.differential.specs.declared.Differential.{Differential}
 use Rattle.differential.specs.Fits.{fits, fitting, fittingPairs}
-use Rattle.differential.specs.Report.{impossible, certain, halves, counted}
+use Rattle.differential.specs.Report.{impossible, certain, halves, counted, reporting}
+use Rattle.differential.specs.Report.Reporting.{linear, twoWords, constant}
 use Rattle.differential.specs.Demand2.{CountedRight, RightReport}
 
 module _ (d : Differential) where
@@ -27,41 +26,39 @@ module _ (d : Differential) where
     counted-right = λ e. absurd (omega arith);
     counted-fitting = λ e. absurd (omega arith);
     number-most = omega arith;
+    linear-number = λ _ _. inl refl;
     words-number = λ _. inl refl;
     constant-number = λ _. inl refl;
-    linear-number = λ _ _. inl refl;
   }
 
   -- a report with another number, where something fits
   possible : {number : ℕ} → number ≢ 0 → (NoneFits → ⊥) → (number ≡ 0) ↔ NoneFits
   possible other some = (λ e. absurd (other e), λ none. absurd (some none))
 
-  -- kinds are told apart by their numbers
-  other-kind : (q r : Kind) → kindOf (d .line .kind) ≡ q → kindNumber q ≢ kindNumber r → kindOf (d .line .kind) ≢ r
-  other-kind q r e n f = n (ap kindNumber (sym e ∙ f))
+  -- ---- a kind is reported in one way: what is asked of another contradicts how
 
-  pub certain-right : (q : Kind) → kindOf (d .line .kind) ≡ q → kindNumber q < 5
+  pub certain-right : {given : Differential → ℕ} → reporting (kindOf (d .line .kind)) ≡ linear given
       → ((x y : ℕ) → x < 2 ^ d .width → y < 2 ^ d .width → fits d x y ≡ true)
       → RightReport d certain
-  certain-right q e few all = record {
+  certain-right how all = record {
     impossible-exactly = possible (λ e. omega arith) (λ none. true≢false (sym (all 0 0 word word) ∙ none 0 0 word word));
     certain-fits = λ _. all;
     halves-right = λ e. absurd (omega arith);
     counted-right = λ e. absurd (omega arith);
     counted-fitting = λ e. absurd (omega arith);
     number-most = omega arith;
-    words-number = λ f. absurd (other-kind q addWords e (λ n. omega arith) f);
-    constant-number = λ f. absurd (other-kind q addConstant e (λ n. omega arith) f);
     linear-number = λ _ _. inr refl;
+    words-number = λ other. inl (cc);
+    constant-number = λ other. inl (cc);
   }
     where
       word : 0 < 2 ^ d .width
       word = pow-pos (d .width)
 
-  pub halves-right : kindOf (d .line .kind) ≡ addWords
+  pub halves-right : reporting (kindOf (d .line .kind)) ≡ twoWords
       → (bits : ℕ) → bits < d .width → fittingPairs d ≡ 2 ^ (2 * d .width - bits) → RightReport d (halves bits)
   unfolding fittingPairs
-  halves-right e bits less pairs = record {
+  halves-right how bits less pairs = record {
     impossible-exactly =
         possible (λ e. omega arith)
         (λ none. omega (arith, pow-pos (2 * d .width - bits), pairs-none (d .width) (fits d) none, pairs));
@@ -70,15 +67,15 @@ module _ (d : Differential) where
     counted-right = λ e. absurd (omega arith);
     counted-fitting = λ e. absurd (omega arith);
     number-most = omega arith;
+    linear-number = λ _ other. inl (cc);
     words-number = λ _. inr refl;
-    constant-number = λ f. absurd (other-kind addWords addConstant e (λ n. omega arith) f);
-    linear-number = λ n _. absurd (n e);
+    constant-number = λ other. inl (cc);
   }
 
-  pub counted-right : kindOf (d .line .kind) ≡ addConstant
+  pub counted-right : reporting (kindOf (d .line .kind)) ≡ constant
       → (w c : ℕ) → CountedRight (d .width) (fitting d) w c → RightReport d (counted w c (fitting d))
   unfolding fitting
-  counted-right e w c right = record {
+  counted-right how w c right = record {
     impossible-exactly =
         possible (λ e. omega arith)
         (λ none.
@@ -88,7 +85,7 @@ module _ (d : Differential) where
     counted-right = λ _. right;
     counted-fitting = λ _. refl;
     number-most = omega arith;
-    words-number = λ f. absurd (other-kind addConstant addWords e (λ n. omega arith) f);
+    linear-number = λ _ other. inl (cc);
+    words-number = λ other. inl (cc);
     constant-number = λ _. inr refl;
-    linear-number = λ _ n. absurd (n e);
   }

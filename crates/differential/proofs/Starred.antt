@@ -12,7 +12,7 @@ use Rattle.differential.specs.TwoWords.{clashes, wordsImpossible, wordsW
 use Rattle.differential.specs.Constant.{halvings, quiet, isChain, chains, chainT, chainP}
 use Rattle.differential.specs.Logarithm.{highestOneBelow, highestOne, nextFour, logarithm}
 use Rattle.differential.specs.Weight.{chainCost, constantWeight}
-use Rattle.differential.specs.Report.{Report, reportAs, reportOf}
+use Rattle.differential.specs.Report.{Report, reportOf}
 
 pub record Case : Type 0 where
   pub differential : Differential
@@ -64,7 +64,7 @@ cases =
     ∷ []
 
 pub starred : map (λ (c : Case). reportOf (c .differential)) cases ≡ map (λ (c : Case). c .report) cases
-unfolding reportOf reportAs kindOf fitting fits makes sumModulo
+unfolding reportOf kindOf fitting fits makes sumModulo
     any count total bit bitBelow fromBits xor
     clashes wordsImpossible wordsWeight
     halvings quiet isChain chains chainT chainP highestOneBelow highestOne nextFour logarithm chainCost constantWeight

@@ -16,11 +16,12 @@ use Rattle.words.specs.Words.{majority}
 use Rattle.words.proofs.LowBits.{low, low-bit, bit-low-zero, bit-low-suc}
 use Rattle.words.proofs.Pairs.{pairs-cong}
 use Rattle.trail.specs.Kinds.{kindOf, makes}
-use Rattle.trail.specs.Kinds.Kind.{addWords}
-use Rattle.trail.proofs.Makes.{makes-as}
 use Rattle.differential.specs.declared.Differential.{Differential}
 use Rattle.differential.specs.Fits.{fits, fittingPairs}
 use Rattle.differential.specs.TwoWords.{allEqual, clashes, wordsImpossible, wordsWeight}
+use Rattle.differential.specs.Report.{reporting}
+use Rattle.differential.specs.Report.Reporting.{twoWords}
+use Rattle.differential.proofs.KindRows.{says}
 use Rattle.differential.proofs.BitSums.{both-cong-two}
 use Rattle.differential.proofs.AddingBits.{overBits, fitsFrom, ways, wrong, secondCarry, ways-low, ways-none, next-carries}
 
@@ -191,7 +192,7 @@ pub weight-less : (n α β γ : ℕ) → 1 ≤ n → wordsWeight n α β γ < n
 unfolding wordsWeight
 weight-less n α β γ h = omega (arith, count-le (n - 1) (λ i. not (allEqual (bit α i) (bit β i) (bit γ i))))
 
-module _ (d : Differential) (add : kindOf (d .line .kind) ≡ addWords) (least : 1 ≤ d .width) (word : d .line .difference < 2 ^ d .width)
+module _ (d : Differential) (how : reporting (kindOf (d .line .kind)) ≡ twoWords) (least : 1 ≤ d .width) (word : d .line .difference < 2 ^ d .width)
   where
     fits-words : (x y : ℕ) → fits d x y ≡ fitsFrom (d .width) (d .first) (d .second) (d .line .difference) false false x y
     unfolding fits fitsFrom sumModulo
@@ -199,7 +200,7 @@ module _ (d : Differential) (add : kindOf (d .line .kind) ≡ addWords) (least :
         ap₂ eqb (ap₂ bitXor (sum (bitXor x (d .first)) (bitXor y (d .second))) (sum x y)) (sym (mod-eq-of-lt word))
       where
         sum : (x y : ℕ) → makes (d .width) (d .line) x y ≡ (x + y + 0) % 2 ^ d .width
-        sum x y = makes-as addWords (d .width) (d .line) x y add ∙ ap (λ (z : ℕ). z % 2 ^ d .width) (sym (add-zero (x + y)))
+        sum x y = says d how x y ∙ ap (λ (z : ℕ). z % 2 ^ d .width) (sym (add-zero (x + y)))
 
     -- the pairs that fit, times 2 ^ w, are all pairs; or there is none
     pub pairs-rule : fittingPairs d * 2 ^ wordsWeight (d .width) (d .first) (d .second) (d .line .difference)

@@ -1,13 +1,13 @@
 -- Demand 2 for one line: what a report says of the operand values that fit.
 use Prim.Native.Nat.{ℕ, _+_, _-_, _*_, _^_, _<_, _≤_}
 use mathlib.Core.Path.{_≡_}
-use mathlib.Core.Logic.{_↔_, _⊎_, _≢_}
+use mathlib.Core.Logic.{_↔_, _⊎_}
 use mathlib.Core.Bool.{true, false}
 use Rattle.trail.specs.WellFormed.{WellFormedLine}
 use Rattle.trail.specs.Kinds.{kindOf}
 use Rattle.differential.specs.declared.Differential.{Differential}
 use Rattle.differential.specs.Fits.{fits, fitting, fittingPairs}
-use Rattle.differential.specs.Report.{Report, Reporting, reporting, reportOf}
+use Rattle.differential.specs.Report.{Report, reporting, reportOf}
 use Rattle.differential.specs.Report.Reporting.{linear, twoWords, constant}
 
 -- the differences are words of the line's width, and the line is well-formed

@@ -2,7 +2,7 @@
 ghost use mathlib.Core.Path.{_≡_};
 ghost use Prim.Native.Nat.{_≤_};
 ghost use Rattle.differential.specs.Demand2.{Proper};
-ghost use Rattle.differential.specs.Report.{reportMeans, reportOf, givenDifference};
+ghost use Rattle.differential.specs.Report.{reportMeans, certainIf, givenDifference};
 use differential::Differential;
 use differential::LineReport;
 use words::rotate_left;
@@ -10,8 +10,8 @@ use words::rotate_right;
 
 // Certain if the stated difference is the one that the operands' differences give, else impossible.
 pub(crate) fn certain_if(d: Differential) -> LineReport
-    requires { ⌜ Proper d × (d .width ≤ 32) × (d .line .kind ≤ 4) ⌝ }
-    ensures { λ r. ⌜ reportMeans r ≡ reportOf d ⌝ }
+    requires { ⌜ Proper d × (d .width ≤ 32) ⌝ }
+    ensures { λ r. ⌜ reportMeans r ≡ certainIf (d .line .difference) (givenDifference d) ⌝ }
 {
     let line = d.line;
     if line.difference == given_difference(d) {
@@ -21,17 +21,18 @@ pub(crate) fn certain_if(d: Differential) -> LineReport
     }
 }
 
-// The XOR, copy or rotation of the operands' differences.
+// The XOR, copy or rotation of the operands' differences; a line of another kind gives none, written 0.
 fn given_difference(d: Differential) -> u64
-    requires { ⌜ Proper d × (d .width ≤ 32) × (d .line .kind ≤ 4) ⌝ }
+    requires { ⌜ Proper d × (d .width ≤ 32) ⌝ }
     ensures { λ r. ⌜ r ≡ givenDifference d ⌝ }
 {
     let line = d.line;
     let kind = line.kind;
     match kind {
         1 => d.first ^ d.second,
+        2 => d.first,
         3 => rotate_left(d.width, line.amount, d.first),
         4 => rotate_right(d.width, line.amount, d.first),
-        _ => d.first,
+        _ => 0,
     }
 }

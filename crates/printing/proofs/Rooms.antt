@@ -1,18 +1,23 @@
--- What a call says that it wrote lies within the lent buffer: question 18 was answered yes.
-use Prim.Native.Nat.{ℕ, _≤_}
+-- The lent buffers: one of 4,944 numbers takes every line's list, and what a call says that it wrote lies within its buffer.
+use Prim.Native.Nat.{ℕ, _≤_, _<_}
 use native.Mathlib.Omega.{arith}
-use mathlib.Core.Path.{_≡_, sym, ap, _∙_}
-use mathlib.Core.List.{List, _++_, append-assoc}
+use mathlib.Core.Path.{_≡_, refl, sym, ap, _∙_, subst}
+use mathlib.Core.List.{List, _++_}
 use lib.ListN.{length}
 use lib.IntN.{ℤ}
+use Rattle.buffers.specs.Overwrite.{overwrite}
+use Rattle.sheet.specs.declared.Header.{Header}
 use Rattle.sheet.specs.Asking.{Question, verdict}
 use Rattle.sheet.specs.Asking.Verdict.{accepted}
 use Rattle.sheet.specs.Fields.{headerOf, trailOf}
-use Rattle.sheet.specs.Questions.{questions, lineNumberQuestions, roomQuestions}
+use Rattle.sheet.specs.Facts.{SheetRead}
+use Rattle.sheet.specs.Questions.{questions, roomQuestions}
 use Rattle.sheet.specs.declared.Mode.the-variants.{Read}
 use Rattle.sheet.proofs.Asking.{yes-right, yes-verdict}
-use Rattle.sheet.proofs.Calling.{enough-room}
+use Rattle.sheet.proofs.Calling.{enough-room, own-questions, some-line-first, some-room}
+use Rattle.sheet.proofs.WellFormed.{accepted-sized, read-lines, read-well-formed}
 use Rattle.clause_lists.specs.Lists.{lineList}
+use Rattle.clause_lists.proofs.Limits.{within-limits}
 use Rattle.report_buffer.specs.Buffer.{bytesNeeded}
 use Rattle.report_buffer.specs.Answers.{bufferMeans}
 use Rattle.report_buffer.specs.declared.BufferAnswer.{BufferAnswer}
@@ -20,6 +25,7 @@ use Rattle.report_buffer.specs.declared.BufferAnswer.the-variants as buffer
 use Rattle.clauses.specs.Answers.{listMeans, listCall}
 use Rattle.clauses.specs.declared.ListAnswer.{ListAnswer}
 use Rattle.clauses.specs.declared.ListAnswer.the-variants as list
+use Rattle.clauses.proofs.ListAnswers.{list-given}
 
 within : (qs : List Question) (need room written : ℕ) → verdict (qs ++ roomQuestions need room) need ≡ accepted written
     → written ≤ room
@@ -32,13 +38,28 @@ pub reports-within : (s : List ℕ) (room : ℕ) (r : BufferAnswer) (bytes : ℕ
     → r ≡ buffer.Written bytes → bytes ≤ room
 reports-within s room r bytes e d = within (questions Read s) (bytesNeeded (headerOf s .lines)) room bytes (sym e ∙ ap bufferMeans d)
 
-pub list-within : (s : List ℕ) (k : ℕ) (out : List ℤ) (r : ListAnswer) (numbers : ℕ)
-    → listMeans r ≡ listCall s k out .answer → r ≡ list.Written numbers → numbers ≤ length out
-unfolding listCall
-list-within s k out r numbers e d =
-    within (questions Read s ++ lineNumberQuestions (headerOf s) k) (length (lineList (trailOf s) k)) (length out) numbers
-    (rw append-assoc (sym e ∙ ap listMeans d))
+-- ---- the list of a line that the sheet has
 
--- The buffer, an array, has as many elements after the call as before.
-pub same-room : (n : ℕ) {written before after : ℕ} → written ≤ before → before ≡ n → after ≡ n → written ≤ after
-same-room n w b a = omega arith
+module _ (s : List ℕ) (h : Header) (read : SheetRead s h) (k : ℕ) (less : k < h .lines) where
+  list-most : length (lineList (trailOf s) k) ≤ 4944
+  list-most =
+      within-limits (read-well-formed s h read) (accepted-sized Read s (read .accepted)) .numbers-most k (omega (arith, read-lines s h read))
+
+  -- a buffer of 4,944 numbers takes it
+  pub list-taken : (out : List ℤ) → 4944 ≤ length out
+      → (accepted (length (lineList (trailOf s) k)) ≡ listCall s k out .answer)
+      × (overwrite 0 (lineList (trailOf s) k) out ≡ listCall s k out .buffer)
+  list-taken out room =
+      let need = length (lineList (trailOf s) k) in
+      let there : k < headerOf s .lines = subst (λ (g : Header). k < g .lines) (sym (read .parts)) less in
+      let fits : need ≤ length out = omega (arith, list-most) in
+      list-given s k out
+      (own-questions s _ need (read .accepted) (some-line-first need (headerOf s) k _ there (some-room need need (length out) fits)))
+      refl
+
+  -- and it lies within a buffer of 4,944
+  pub list-within : (r : ListAnswer) (count : ℕ) → listMeans r ≡ accepted (length (lineList (trailOf s) k)) → r ≡ list.Written count
+      → count ≤ 4944
+  list-within r count e d =
+      let same : count ≡ length (lineList (trailOf s) k) = cc (ap listMeans d) in
+      omega (arith, list-most)

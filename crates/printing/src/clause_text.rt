@@ -1,20 +1,29 @@
 // A sheet's clauses as text: the header, then a line for each clause (DIMACS CNF).
-ghost use Prim.Native.Nat.{_≤_};
+ghost use mathlib.Core.Path.{_≡_};
+ghost use Prim.Native.Nat.{_≤_, _<_};
+ghost use lib.ListN.{length};
+ghost use Rattle.buffers.specs.Overwrite.{overwrite};
+ghost use Rattle.sheet.specs.Asking.Verdict.{accepted};
+ghost use Rattle.sheet.specs.Fields.{trailOf};
+ghost use Rattle.sheet.specs.Facts.{SheetRead};
+ghost use Rattle.clause_lists.specs.Lists.{lineList};
+ghost use Rattle.clauses.specs.Answers.{listMeans};
 use crate::refusals::put_refusal;
 use clauses::Counts;
 use clauses::CountsAnswer;
 use clauses::ListAnswer;
 use clauses::clause_counts;
 use clauses::line_list;
+use reading::read;
+use sheet::Header;
+use sheet::Reading;
 use text::stream::OUTPUT_BYTES;
 use text::stream::put_byte;
 use text::stream::put_number;
 use text::stream::put_signed;
 use text::stream::put_text;
 
-// The most lines that a sheet has, and the numbers of the longest list of one.
-const MOST_LINES: usize = 248;
-
+// The numbers of the longest list that a line has.
 const LIST_NUMBERS: usize = 4944;
 
 // The header and the clauses of a sheet, or the refusal.
@@ -22,17 +31,28 @@ pub(crate) fn put_clauses(out: &mut [u8; OUTPUT_BYTES], at: usize, sheet: &[u8])
     requires { ⌜ at ≤ 8192 ⌝ }
     ensures { λ r. ⌜ r ≤ 8192 ⌝ }
 {
-    match clause_counts(sheet) {
-        CountsAnswer::Given(counts) => {
-            let headed = put_header(out, at, counts);
-            put_lists(out, headed, sheet)
+    match read(sheet) {
+        Reading::Accepted(header) => {
+            let headed = put_header(out, at, sheet);
+            put_lists(out, headed, sheet, header)
         }
+        Reading::Refused(refusal) => put_refusal(out, at, refusal),
+    }
+}
+
+// The header of a sheet's clauses, or the refusal.
+pub(crate) fn put_header(out: &mut [u8; OUTPUT_BYTES], at: usize, sheet: &[u8]) -> usize
+    requires { ⌜ at ≤ 8192 ⌝ }
+    ensures { λ r. ⌜ r ≤ 8192 ⌝ }
+{
+    match clause_counts(sheet) {
+        CountsAnswer::Given(counts) => put_counts(out, at, counts),
         CountsAnswer::Refused(refusal) => put_refusal(out, at, refusal),
     }
 }
 
 // `p cnf VARIABLES CLAUSES`, and the line's end.
-fn put_header(out: &mut [u8; OUTPUT_BYTES], at: usize, counts: Counts) -> usize
+fn put_counts(out: &mut [u8; OUTPUT_BYTES], at: usize, counts: Counts) -> usize
     requires { ⌜ at ≤ 8192 ⌝ }
     ensures { λ r. ⌜ r ≤ 8192 ⌝ }
 {
@@ -41,20 +61,44 @@ fn put_header(out: &mut [u8; OUTPUT_BYTES], at: usize, counts: Counts) -> usize
     put_byte(out, clauses, b'\n')
 }
 
-// The lists of lines 0, 1, .., each written over the one before it, up to the first number that names no line.
-fn put_lists(out: &mut [u8; OUTPUT_BYTES], at: usize, sheet: &[u8]) -> usize
-    requires { ⌜ at ≤ 8192 ⌝ }
+// The lists of all lines, from line 0 on.
+fn put_lists(out: &mut [u8; OUTPUT_BYTES], at: usize, sheet: &[u8], header: Header) -> usize
+    requires { ⌜ (at ≤ 8192) × SheetRead (now sheet) header ⌝ }
+    ensures { λ r. ⌜ r ≤ 8192 ⌝ }
+{
+    let lines = header.lines;
+    let mut next = at;
+    for k in 0..lines {
+        next = put_line(out, next, sheet, header, k);
+    }
+    next
+}
+
+// The list of line k. A refusal would be printed in its place, and not taken for the end of the lines.
+fn put_line(
+    out: &mut [u8; OUTPUT_BYTES],
+    at: usize,
+    sheet: &[u8],
+    header: Header,
+    k: usize,
+) -> usize
+    requires { ⌜ (at ≤ 8192) × SheetRead (now sheet) header × (k < header .lines) ⌝ }
     ensures { λ r. ⌜ r ≤ 8192 ⌝ }
 {
     let mut list = [0i32; LIST_NUMBERS];
-    let mut next = at;
-    for k in 0..MOST_LINES {
-        let ListAnswer::Written(count) = line_list(sheet, k, &mut list) else {
-            return next;
-        };
-        next = put_list(out, next, &list[0..count]);
+    match write_list(sheet, header, k, &mut list) {
+        ListAnswer::Written(count) => put_list(out, at, &list[0..count]),
+        ListAnswer::Refused(refusal) => put_refusal(out, at, refusal),
     }
-    next
+}
+
+// Writes the list of a line that the sheet has. A buffer that is long enough for every list is not refused.
+fn write_list(sheet: &[u8], header: Header, k: usize, list: &mut [i32]) -> ListAnswer
+    requires { ⌜ SheetRead (now sheet) header × (k < header .lines) × (4944 ≤ length (now list)) ⌝ }
+    ensures { λ r. ⌜ listMeans r ≡ accepted (length (lineList (trailOf (now (sheet .entry))) k)) ⌝ }
+    ensures { λ _. ⌜ now (list .exit) ≡ overwrite 0 (lineList (trailOf (now (sheet .entry))) k) (now (list .entry)) ⌝ }
+{
+    line_list(sheet, k, list)
 }
 
 // The clauses of a list.

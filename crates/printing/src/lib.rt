@@ -1,24 +1,43 @@
-// What the programs print of a sheet, on standard output (document 01, "The programs").
+// What the programs do: they read a sheet from an open file and print a text of it on standard output (document 01, "The
+// programs").
 mod clause_text;
 mod refusals;
 mod report_text;
 
 ghost use Prim.Native.Nat.{_≤_};
 use crate::clause_text::put_clauses;
+use crate::clause_text::put_header;
 use crate::report_text::put_report;
 use text::stream::OUTPUT_BYTES;
 use text::stream::write_out;
 
-// Prints the report of every line and the totals, or the refusal.
-pub fn print_report(sheet: &[u8]) {
+// One byte more than any sheet has: a longer input is refused for its length, whatever follows.
+const INPUT_BYTES: usize = 4609;
+
+// The report of every line and the totals; the clauses of all lines after their header; or the header alone, the counts of a
+// sheet whose clauses would fill megabytes.
+pub enum Text {
+    Report,
+    Clauses,
+    Header,
+}
+
+// Prints a text of the sheet that is read, or the refusal.
+pub fn print(text: Text, file: i32) {
+    let mut input = [0u8; INPUT_BYTES];
+    let n = io::read_full(file, &mut input);
     let mut out = [0u8; OUTPUT_BYTES];
-    let end = put_report(&mut out, 0, sheet);
+    let end = put_text(&mut out, text, &input[..n]);
     write_out(&out, end);
 }
 
-// Prints the clauses of all lines with their header, or the refusal.
-pub fn print_clauses(sheet: &[u8]) {
-    let mut out = [0u8; OUTPUT_BYTES];
-    let end = put_clauses(&mut out, 0, sheet);
-    write_out(&out, end);
+// A text of a sheet, or the refusal.
+fn put_text(out: &mut [u8; OUTPUT_BYTES], text: Text, sheet: &[u8]) -> usize
+    ensures { λ r. ⌜ r ≤ 8192 ⌝ }
+{
+    match text {
+        Text::Report => put_report(out, 0, sheet),
+        Text::Clauses => put_clauses(out, 0, sheet),
+        Text::Header => put_header(out, 0, sheet),
+    }
 }

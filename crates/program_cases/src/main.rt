@@ -1,27 +1,22 @@
 // Prints what the programs `trail_report` and `trail_clauses` print, of several sheets.
 //
-// A case is a line of standard input, `NAME: LENGTH OFFSET=VALUE ..`: a sheet of LENGTH bytes, all 0 but those listed. Its
-// name's first letter says what is printed after the name: `report ..`, or `clauses ..`.
+// A case is a line of standard input, `TEXT FILE`, and FILE is the name of a sheet. After the case its text is printed: the
+// `report` of the sheet, its `clauses`, or the `header` of these.
 use libc::STDIN_FILENO;
 use libc::STDOUT_FILENO;
-use printing::print_clauses;
-use printing::print_report;
+use printing::Text;
 use text::parse::find;
-use text::parse::take_sheet;
 
 // Room for all cases.
-const TEXT_BYTES: usize = 131072;
-
-// One block more than any sheet has.
-const SHEET_BYTES: usize = 5120;
+const CASES_BYTES: usize = 4096;
 
 fn main() {
-    let mut input = [0u8; TEXT_BYTES];
+    let mut input = [0u8; CASES_BYTES];
     let n = io::read_full(STDIN_FILENO, &mut input);
     run_cases(&input[..n]);
 }
 
-// Prints the text of every line of the input.
+// Prints every case of the input and its text.
 fn run_cases(input: &[u8]) {
     let mut from = 0;
     while from < input.len() {
@@ -31,24 +26,32 @@ fn run_cases(input: &[u8]) {
     }
 }
 
-// Prints a line's name and its text.
-fn run_case(line: &[u8]) {
-    let colon = find(line, 0, b':');
-    io::write_all(STDOUT_FILENO, &line[0..colon]);
+// Prints a case and its text.
+fn run_case(case: &[u8]) {
+    io::write_all(STDOUT_FILENO, case);
     io::write_all(STDOUT_FILENO, b":\n");
-    let mut sheet = [0u8; SHEET_BYTES];
-    let length = take_sheet(&mut sheet, line, colon + 2);
-    print_text(line, &sheet[0..length]);
+    let blank = find(case, 0, b' ');
+    if blank < case.len() {
+        print_text(text_of(case[0]), &case[blank + 1..]);
+    }
 }
 
-// Prints the text that a line's first letter names.
-fn print_text(line: &[u8], sheet: &[u8]) {
-    if line.len() == 0 {
+// The text whose name begins with a letter.
+fn text_of(letter: u8) -> Text {
+    match letter {
+        b'r' => Text::Report,
+        b'c' => Text::Clauses,
+        _ => Text::Header,
+    }
+}
+
+// Prints a text of the sheet of a name.
+fn print_text(text: Text, name: &[u8]) {
+    let file = os::open_read(name);
+    if file < 0 {
+        os::fail(name);
         return;
     }
-    let letter = line[0];
-    match letter {
-        b'r' => print_report(sheet),
-        _ => print_clauses(sheet),
-    }
+    printing::print(text, file);
+    libc::close(file);
 }

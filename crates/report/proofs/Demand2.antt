@@ -4,9 +4,10 @@ use native.Mathlib.Omega.{arith}
 use mathlib.Core.Path.{_≡_, refl, sym, ap, _∙_}
 use mathlib.Core.List.{List}
 use Rattle.trail.specs.Kinds.{Kind, kindOf, usesSecond}
-use Rattle.trail.specs.Kinds.Kind.{xorWords, xorConstant, rotatesLeft, rotatesRight, addWords, addConstant, unknown}
 use Rattle.trail.specs.Trail.{lineCount, lineAt}
-use Rattle.differential.specs.Report.{reportAs, reportOf}
+use Rattle.differential.specs.Report.{Reporting, reporting, reportBy, reportOf}
+use Rattle.differential.specs.Report.Reporting.{linear, twoWords, constant, none}
+use Rattle.differential.proofs.KindRows.{Reads, row-reads}
 use Rattle.differential.proofs.Formula.{fitting-constant}
 use Rattle.differential.proofs.Demand2.{every-report-is-right}
 use Rattle.sheet.specs.Fields.{trailOf}
@@ -24,21 +25,25 @@ unfolding lineReport
 sheet-reports-are-right s accepted k l =
     every-report-is-right (differentialOf (trailOf s) k) (proper-line (accepted-well-formed Read s accepted) k l)
 
--- what a report reads, kind by kind: no operand's number, and no second difference where the kind does not use it
+-- a report reads no operand's number, and no second difference where the kind does not use it
 pub reports-are-local : ReportsAreLocal
-unfolding lineReport differentialOf reportOf reportAs
+unfolding lineReport differentialOf reportOf
 reports-are-local t k r l same =
-    at (kindOf (lineAt t k .kind)) refl ∙ ap (λ (n : ℕ). reportAs (kindOf n) (differentialOf r l)) (same .kind)
+    at (reporting q) refl (row-reads q) ∙ ap (λ (n : ℕ). reportBy (reporting (kindOf n)) (differentialOf r l)) (same .kind)
   where
-    at : (q : Kind) → kindOf (lineAt t k .kind) ≡ q → reportAs q (differentialOf t k) ≡ reportAs q (differentialOf r l)
-    at xorWords e = cc (same .second (ap usesSecond e))
-    at xorConstant e = cc
-    at rotatesLeft e = cc
-    at rotatesRight e = cc
-    at addWords e = cc (same .second (ap usesSecond e))
-    at addConstant e =
-        cc (fitting-constant (differentialOf t k) e, fitting-constant (differentialOf r l) (ap kindOf (sym (same .kind)) ∙ e))
-    at unknown e = refl
+    q : Kind
+    q = kindOf (lineAt t k .kind)
+
+    other-how : reporting (kindOf (lineAt r l .kind)) ≡ reporting q
+    other-how = ap (λ (n : ℕ). reporting (kindOf n)) (sym (same .kind))
+
+    at : (p : Reporting) → reporting q ≡ p → Reads p (usesSecond q) → reportBy p (differentialOf t k) ≡ reportBy p (differentialOf r l)
+    at (linear given) how reads =
+        cc (reads (differentialOf t k) (differentialOf r l) (same .width) (same .amount) (same .first) (same .second))
+    at twoWords how used = cc (same .second used)
+    at constant how _ =
+        cc (fitting-constant (differentialOf t k) how, fitting-constant (differentialOf r l) (other-how ∙ how))
+    at none how _ = refl
 
 -- the values of a line's report on an accepted sheet
 pub sheet-report-small : (s : List ℕ) → IsAccepted s → (k : ℕ) → k < lineCount (trailOf s) → SmallReport (lineReport (trailOf s) k)

@@ -1,30 +1,30 @@
 -- A report's values at widths up to 32.
-use Prim.Native.Nat.{ℕ, _+_, _-_, _*_, _^_, _<_, _≤_}
+use Prim.Native.Nat.{ℕ, _-_, _^_, _<_, _≤_}
 use native.Mathlib.Omega.{arith}
-use native.Mathlib.Nat.{le-trans, le-of-eq}
-use mathlib.Core.Path.{_≡_, refl, sym, ap, subst, _∙_}
+use native.Mathlib.Nat.{le-trans}
+use mathlib.Core.Path.{_≡_, refl, subst}
 use mathlib.Core.Bool.{Bool, true, false, not, cond}
 use borrow.Author.Tests.{eqb-false}
 use lib.Dec.{eqb}
 use lib.Pow.{pow-mono}
 use Rattle.words.specs.Words.{bit}
 use Rattle.words.proofs.Below.{count-le}
-use Rattle.trail.specs.Kinds.{Kind, kindOf}
-use Rattle.trail.specs.Kinds.Kind.{xorWords, xorConstant, rotatesLeft, rotatesRight, addWords, addConstant, unknown}
+use Rattle.trail.specs.Kinds.{kindOf}
 use Rattle.differential.specs.declared.Differential.{Differential}
 use Rattle.differential.specs.Fits.{fits, fitting}
 use Rattle.differential.specs.TwoWords.{allEqual, wordsImpossible, wordsWeight}
 use Rattle.differential.specs.Constant.{chains, constantFitting}
 use Rattle.differential.specs.Weight.{constantWeight}
-use Rattle.differential.specs.Report.{Report, impossible, certain, halves, counted, certainIf, givenAs, reportAs, reportOf}
+use Rattle.differential.specs.Report.{Report, impossible, certain, halves, counted, Reporting, reporting, reportBy, reportOf}
+use Rattle.differential.specs.Report.Reporting.{linear, twoWords, constant, none}
 use Rattle.differential.specs.Demand2.{Proper, CountedRight}
 use Rattle.differential.proofs.ChainLaws.{chains-le}
 use Rattle.differential.proofs.Formula.{fitting-constant}
 use Rattle.differential.proofs.Weights.{constant-right}
 use Rattle.report.specs.Totals.{SmallReport}
 
-none-small : SmallReport impossible
-none-small = record { weight = omega arith; chains = omega arith; fitting = omega arith }
+impossible-small : SmallReport impossible
+impossible-small = record { weight = omega arith; chains = omega arith; fitting = omega arith }
 
 certain-small : SmallReport certain
 certain-small = record { weight = omega arith; chains = omega arith; fitting = omega arith }
@@ -46,10 +46,10 @@ module _ (d : Differential) (proper : Proper d) (narrow : d .width ≤ 32) where
   unfolding fitting
   fitting-small = le-trans (count-le (2 ^ d .width) (λ x. fits d x 0)) (pow-mono narrow)
 
-  constant-small : (adds : kindOf (d .line .kind) ≡ addConstant) (t : Bool) → eqb (fitting d) 0 ≡ t
+  constant-small : (how : reporting (kindOf (d .line .kind)) ≡ constant) (t : Bool) → eqb (fitting d) 0 ≡ t
       → SmallReport (cond t impossible (counted (constantWeight (d .width) (d .line .constant) (d .first) (d .line .difference)) (chains (d .width) (d .first) (d .line .difference)) (fitting d)))
-  constant-small adds true e = none-small
-  constant-small adds false e = record {
+  constant-small how true e = impossible-small
+  constant-small how false e = record {
     weight = omega (arith, right .weight-most);
     chains = le-trans (chains-le (d .width) (d .first) (d .line .difference)) narrow;
     fitting = fitting-small;
@@ -59,7 +59,7 @@ module _ (d : Differential) (proper : Proper d) (narrow : d .width ≤ 32) where
       n = d .width
 
       some : 0 < constantFitting n (d .line .constant) (d .first) (d .line .difference)
-      some = subst (λ (z : ℕ). 0 < z) (fitting-constant d adds) (above (fitting d) (eqb-false (fitting d) 0 e))
+      some = subst (λ (z : ℕ). 0 < z) (fitting-constant d how) (above (fitting d) (eqb-false (fitting d) 0 e))
         where
           above : (z : ℕ) → (z ≡ 0 → ⊥) → 0 < z
           above z h = omega arith
@@ -68,16 +68,13 @@ module _ (d : Differential) (proper : Proper d) (narrow : d .width ≤ 32) where
       right = constant-right n (d .line .constant) (d .first) (d .line .difference) (proper .line-right .difference-word) some
 
   pub small-report : SmallReport (reportOf d)
-  unfolding reportOf reportAs
-  small-report = at (kindOf (d .line .kind)) refl
+  unfolding reportOf
+  small-report = at (reporting (kindOf (d .line .kind))) refl
     where
-      at : (q : Kind) → kindOf (d .line .kind) ≡ q → SmallReport (reportAs q d)
-      at xorWords e = either-small (eqb (d .line .difference) (givenAs xorWords d)) certain-small none-small
-      at xorConstant e = either-small (eqb (d .line .difference) (givenAs xorConstant d)) certain-small none-small
-      at rotatesLeft e = either-small (eqb (d .line .difference) (givenAs rotatesLeft d)) certain-small none-small
-      at rotatesRight e = either-small (eqb (d .line .difference) (givenAs rotatesRight d)) certain-small none-small
-      at addWords e =
-          either-small (wordsImpossible (d .width) (d .first) (d .second) (d .line .difference)) none-small
+      at : (p : Reporting) → reporting (kindOf (d .line .kind)) ≡ p → SmallReport (reportBy p d)
+      at (linear given) how = either-small (eqb (d .line .difference) (given d)) certain-small impossible-small
+      at twoWords how =
+          either-small (wordsImpossible (d .width) (d .first) (d .second) (d .line .difference)) impossible-small
           (words-small (d .width) (d .first) (d .second) (d .line .difference) narrow)
-      at addConstant e = constant-small e (eqb (fitting d) 0) refl
-      at unknown e = none-small
+      at constant how = constant-small how (eqb (fitting d) 0) refl
+      at none how = impossible-small

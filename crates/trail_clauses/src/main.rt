@@ -1,11 +1,7 @@
 // Reads a sheet from standard input and prints its clauses for a SAT solver.
 use libc::STDIN_FILENO;
-
-// One byte more than any sheet has: a longer input is refused for its length, whatever follows.
-const INPUT_BYTES: usize = 4609;
+use printing::Text;
 
 fn main() {
-    let mut input = [0u8; INPUT_BYTES];
-    let n = io::read_full(STDIN_FILENO, &mut input);
-    printing::print_clauses(&input[..n]);
+    printing::print(Text::Clauses, STDIN_FILENO);
 }

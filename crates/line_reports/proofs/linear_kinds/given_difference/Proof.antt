@@ -1,45 +1,73 @@
--- `given_difference` goes by the kind's number; of the kinds from 1 to 4 only 2 is left for its last arm.
+-- `given_difference` goes by the kind's number: each arm has what that number's kind gives, and the last is left by every linear kind.
+use mathlib.Core.Bool.{true}
+use mathlib.Core.Logic.{⊎-elim}
 use mathlib.Core.Path.{_≡_, refl, sym, _∙_}
-use mathlib.Core.Logic.{_≢_}
-use Prim.Native.Nat.{ℕ, _≤_}
+use Prim.Native.Nat.{_^_, _<_, _≤_}
 use native.Mathlib.Omega.{arith}
-use Rattle.trail.specs.Kinds.Kind.{xorWords, xorConstant, rotatesLeft, rotatesRight}
-use Rattle.trail.proofs.KindNumbers.{known-least}
-use Rattle.differential.proofs.ReportKinds.{given-by, rotates}
+use lib.Bits.{bitXor}
+use Rattle.words.specs.Words.{rotateLeft, rotateRight}
+use Rattle.trail.specs.Kinds.{kindOf, usesAmount}
+use Rattle.trail.proofs.KindNumbers.{at-key, no-number}
+use Rattle.differential.specs.declared.Differential.{Differential}
+use Rattle.differential.specs.Report.{reporting, givenBy, givenDifference}
+use Rattle.differential.specs.Demand2.{Proper}
+use Rattle.differential.proofs.ReportKinds.{isLinear, none-given}
 use Rattle.line_reports.proofs.linear_kinds.given_difference.Statement.{statement}
 use Rattle.line_reports.proofs.linear_kinds.given_difference.Tie as tie
 
+-- what a rotation's code asks
+rotates : {d : Differential} → Proper d → d .width ≤ 32 → usesAmount (kindOf (d .line .kind)) ≡ true
+    → (d .width ≤ 64) × (1 ≤ d .line .amount) × (d .line .amount < d .width) × (d .first < 2 ^ d .width)
+rotates proper most used =
+    (omega arith, proper .line-right .amount-least used, proper .line-right .amount-most used, proper .first-word)
+
 rotate-left-requires : tie.Need-rotate-left-requires
+unfolding kindOf
 rotate-left-requires c κs =
     let start = c .before .before in
-    rotates (start .args .d) rotatesLeft refl (c .match .keys2) (start .pre .0) (omega arith)
+    rotates (start .pre .0) (start .pre .1) (at-key (λ q. usesAmount q ≡ true) (c .match .keys3) refl)
 
 rotate-right-requires : tie.Need-rotate-right-requires
+unfolding kindOf
 rotate-right-requires c κs =
     let start = c .before .before in
-    rotates (start .args .d) rotatesRight refl (c .match .keys3) (start .pre .0) (omega arith)
+    rotates (start .pre .0) (start .pre .1) (at-key (λ q. usesAmount q ≡ true) (c .match .keys4) refl)
 
 returns : tie.Need-returns
-returns c = sym (given-by _ xorWords (c .before .match .keys1))
+unfolding givenDifference kindOf
+returns c =
+    let d = c .before .before .before .args .d in
+    at-key (λ q. bitXor (d .first) (d .second) ≡ givenBy (reporting q) d) (c .before .match .keys1) refl
 
 returns-2 : tie.Need-returns-2
-returns-2 c = c .rotate-left .ensures ∙ sym (given-by _ rotatesLeft (c .before .match .keys2))
+unfolding givenDifference kindOf
+returns-2 c =
+    let d = c .before .before .args .d in
+    at-key (λ q. d .first ≡ givenBy (reporting q) d) (c .match .keys2) refl
 
 returns-3 : tie.Need-returns-3
-returns-3 c = c .rotate-right .ensures ∙ sym (given-by _ rotatesRight (c .before .match .keys3))
-
-left : (k : ℕ) → 1 ≤ k → k ≤ 4 → k ≢ 1 → k ≢ 3 → k ≢ 4 → k ≡ 2
-left k least most one three four = omega arith
+unfolding givenDifference kindOf
+returns-3 c =
+    let d = c .before .before .before .args .d in
+    c .rotate-left .ensures
+    ∙ at-key (λ q. rotateLeft (d .width) (d .line .amount) (d .first) ≡ givenBy (reporting q) d) (c .before .match .keys3) refl
 
 returns-4 : tie.Need-returns-4
+unfolding givenDifference kindOf
 returns-4 c =
-    let start = c .before .before in
-    let k = start .args .d .line .kind in
+    let d = c .before .before .before .args .d in
+    c .rotate-right .ensures
+    ∙ at-key (λ q. rotateRight (d .width) (d .line .amount) (d .first) ≡ givenBy (reporting q) d) (c .before .match .keys4) refl
+
+returns-5 : tie.Need-returns-5
+unfolding givenDifference kindOf
+returns-5 c =
+    let d = c .before .before .args .d in
     let rest = c .match .rest in
-    let least = known-least k (start .pre .0 .line-right .kind-known) in
-    sym (given-by _ xorConstant (left k least (start .pre .2) (rest .0 .0 .1) (rest .0 .1) (rest .1)))
+    let others = ⊎-elim (rest .0 .0 .0 .1) (⊎-elim (rest .0 .0 .1) (⊎-elim (rest .0 .1) (rest .1))) in
+    sym (none-given (reporting (kindOf (d .line .kind))) (no-number (λ q. isLinear (reporting q)) (d .line .kind) refl others) d)
 
 pub given-difference-spec : {M : Type 1} → statement M
 given-difference-spec =
     tie.close
-    (tie.spec rotate-left-requires rotate-right-requires returns returns-2 returns-3 returns-4)
+    (tie.spec rotate-left-requires rotate-right-requires returns returns-2 returns-3 returns-4 returns-5)

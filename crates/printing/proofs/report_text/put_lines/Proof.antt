@@ -1,7 +1,7 @@
 -- The reports that are written lie within their buffer: question 18 was answered yes.
-use mathlib.Core.Path.{refl}
+use native.Mathlib.Nat.{le-trans}
 use borrow.Author.Needs.{needs}
-use Rattle.printing.proofs.Rooms.{reports-within, same-room}
+use Rattle.printing.proofs.Rooms.{reports-within}
 use Rattle.printing.proofs.report_text.put_lines.Statement.{statement}
 use Rattle.printing.proofs.report_text.put_lines.Tie as tie
 
@@ -22,7 +22,7 @@ part-put-reports-start c = search needs
 
 part-put-reports-end : tie.Need-part-put-reports-end
 part-put-reports-end c =
-    same-room 3968 (reports-within (c .before .before .before .before .before .before .before .before .before .args .sheet .now) 3968 _ _ (c .before .before .before .before .before .before .write-reports .ensures .0) (c .before .before .before .bytes .given .1)) refl (search needs)
+    le-trans (reports-within (c .before .before .before .before .before .before .before .before .before .args .sheet .now) _ _ _ (c .before .before .before .before .before .before .write-reports .ensures .0) (c .before .before .before .bytes .given .1)) (search needs)
 
 put-reports-requires : tie.Need-put-reports-requires
 put-reports-requires c κs = search needs
