@@ -15,7 +15,7 @@ use Rattle.sheet.specs.Questions.{questions, roomQuestions}
 use Rattle.sheet.specs.declared.Mode.the-variants.{Read}
 use Rattle.sheet.proofs.Asking.{yes-right, yes-verdict}
 use Rattle.sheet.proofs.Calling.{enough-room, own-questions, some-line-first, some-room}
-use Rattle.sheet.proofs.WellFormed.{accepted-sized, read-lines, read-well-formed}
+use Rattle.sheet.proofs.WellFormed.{accepted-sized}
 use Rattle.clause_lists.specs.Lists.{lineList}
 use Rattle.clause_lists.proofs.Limits.{within-limits}
 use Rattle.report_buffer.specs.Buffer.{bytesNeeded}
@@ -43,7 +43,7 @@ reports-within s room r bytes e d = within (questions Read s) (bytesNeeded (head
 module _ (s : List ℕ) (h : Header) (read : SheetRead s h) (k : ℕ) (less : k < h .lines) where
   list-most : length (lineList (trailOf s) k) ≤ 4944
   list-most =
-      within-limits (read-well-formed s h read) (accepted-sized Read s (read .accepted)) .numbers-most k (omega (arith, read-lines s h read))
+      within-limits (read .well-formed) (accepted-sized Read s (read .accepted)) .numbers-most k (omega (arith, read .lines))
 
   -- a buffer of 4,944 numbers takes it
   pub list-taken : (out : List ℤ) → 4944 ≤ length out

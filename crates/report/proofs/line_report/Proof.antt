@@ -5,7 +5,7 @@ use Rattle.sheet.specs.declared.Header.{Header}
 use Rattle.sheet.specs.declared.Mode.the-variants.{Read as reading}
 use Rattle.sheet.specs.Asking.Verdict.{accepted}
 use Rattle.sheet.specs.Fields.{headerOf}
-use Rattle.sheet.proofs.Calling.{refused-by-reading, accepted-by-reading, own-questions, no-line, some-line}
+use Rattle.sheet.proofs.Calling.{refused-by-reading, was-read, own-questions, no-line, some-line}
 use Rattle.report.proofs.line_report.Tie as tie
 use Rattle.report.proofs.line_report.Statement.{statement}
 
@@ -26,23 +26,23 @@ returns c = rw (c .refusal-of .ensures) (refused-by-reading _ _ (c .before .befo
 
 returns-2 : tie.Need-returns-2
 returns-2 c =
-    let yes = accepted-by-reading _ _ (c .before .before .before .before .before .read .ensures) _ (c .before .before .before .reading .given .1) in
+    let read = was-read _ _ (c .before .before .before .before .before .read .ensures) _ (c .before .before .before .reading .given .1) in
     let s = c .before .before .before .before .before .before .before .args .sheet .now in
     let k = c .before .before .before .before .before .before .before .args .k in
-    own-questions _ _ _ (yes .0) (no-line _ (headerOf s) k (subst (λ (h : Header). h .lines ≤ k) (sym (yes .1)) (c .if1 .taken)))
+    own-questions _ _ _ (read .accepted) (no-line _ (headerOf s) k (subst (λ (h : Header). h .lines ≤ k) (sym (read .parts)) (c .if1 .taken)))
 
 report-at-requires : tie.Need-report-at-requires
 report-at-requires c κs =
-    let yes = accepted-by-reading _ _ (c .before .before .before .before .before .read .ensures) _ (c .before .before .before .reading .given .1) in
-    (record { accepted = yes .0; parts = yes .1 }, c .if1 .left)
+    let read = was-read _ _ (c .before .before .before .before .before .read .ensures) _ (c .before .before .before .reading .given .1) in
+    (read, c .if1 .left)
 
 returns-3 : tie.Need-returns-3
 returns-3 c =
-    let yes = accepted-by-reading _ _ (c .before .before .before .before .before .before .read .ensures) _ (c .before .before .before .before .reading .given .1) in
+    let read = was-read _ _ (c .before .before .before .before .before .before .read .ensures) _ (c .before .before .before .before .reading .given .1) in
     let s = c .before .before .before .before .before .before .before .before .args .sheet .now in
     let k = c .before .before .before .before .before .before .before .before .args .k in
     ap accepted (c .report-at .ensures)
-    ∙ own-questions _ _ _ (yes .0) (some-line _ (headerOf s) k (subst (λ (h : Header). k < h .lines) (sym (yes .1)) (c .before .if1 .left)))
+    ∙ own-questions _ _ _ (read .accepted) (some-line _ (headerOf s) k (subst (λ (h : Header). k < h .lines) (sym (read .parts)) (c .before .if1 .left)))
 
 pub line-report-spec : {M : Type 1} → statement M
 line-report-spec =

@@ -3,8 +3,7 @@ use borrow.Author.Needs.{needs}
 use Rattle.sheet.specs.declared.Mode.the-variants.{Read as reading}
 use Rattle.sheet.specs.Asking.Verdict.{accepted}
 use Rattle.sheet.proofs.Asking.{verdict-yes}
-use Rattle.sheet.proofs.Calling.{refused-alone, accepted-by-reading}
-use Rattle.sheet.proofs.Calling.{accepted-by-reading}
+use Rattle.sheet.proofs.Calling.{refused-alone, was-read}
 use Rattle.report.proofs.sheet_totals.Tie as tie
 use Rattle.report.proofs.sheet_totals.Statement.{statement}
 
@@ -25,13 +24,12 @@ returns c = rw (c .refusal-of .ensures) (refused-alone _ _ (c .before .before .b
 
 sum-reports-requires : tie.Need-sum-reports-requires
 sum-reports-requires c κs =
-    let yes = accepted-by-reading _ _ (c .before .before .before .read .ensures) _ (c .before .reading .given .1) in
-    record { accepted = yes .0; parts = yes .1 }
+    was-read _ _ (c .before .before .before .read .ensures) _ (c .before .reading .given .1)
 
 returns-2 : tie.Need-returns-2
 returns-2 c =
-    let yes = accepted-by-reading _ _ (c .before .before .before .before .read .ensures) _ (c .before .before .reading .given .1) in
-    ap accepted (c .sum-reports .ensures) ∙ sym (verdict-yes _ _ (yes .0))
+    let read = was-read _ _ (c .before .before .before .before .read .ensures) _ (c .before .before .reading .given .1) in
+    ap accepted (c .sum-reports .ensures) ∙ sym (verdict-yes _ _ (read .accepted))
 
 pub sheet-totals-spec : {M : Type 1} → statement M
 sheet-totals-spec =

@@ -5,12 +5,10 @@ use native.Mathlib.Omega.{arith}
 use mathlib.Core.Path.{sym, ap, _∙_, subst}
 use borrow.Author.Needs.{needs}
 use Rattle.sheet.specs.declared.Header.{Header}
-use Rattle.sheet.specs.declared.Mode.the-variants.{Read as reading}
 use Rattle.sheet.specs.Asking.{verdict}
 use Rattle.sheet.specs.Asking.Verdict.{accepted, refused}
 use Rattle.sheet.specs.Fields.{headerOf}
-use Rattle.sheet.proofs.WellFormed.{accepted-limited}
-use Rattle.sheet.proofs.Calling.{refused-by-reading, accepted-by-reading, own-questions, no-room, some-room}
+use Rattle.sheet.proofs.Calling.{refused-by-reading, was-read, own-questions, no-room, some-room}
 use Rattle.report_buffer.specs.Buffer.{bytesNeeded}
 use Rattle.report_buffer.specs.Answers.{bufferAsks}
 use Rattle.report_buffer.proofs.ReportBytes.{buffer-kept, buffer-written}
@@ -39,8 +37,8 @@ returns c =
 
 mul-need : tie.Need-mul-need
 mul-need c =
-    let yes = accepted-by-reading _ _ (c .before .before .before .before .read .ensures) _ (c .before .before .reading .given .1) in
-    let few = subst (λ (h : Header). h .lines ≤ 248) (yes .1) (accepted-limited reading _ (yes .0) .lines-most) in
+    let read = was-read _ _ (c .before .before .before .before .read .ensures) _ (c .before .before .reading .given .1) in
+    let few = read .limits .lines-most in
     omega arith
 
 returns-2 : tie.Need-returns-2
@@ -48,15 +46,15 @@ returns-2 c =
     let start = c .before .before .before .before .before .before .before .before in
     let s = start .args .sheet .now in
     let out = start .args .out .now in
-    let yes = accepted-by-reading _ _ (c .before .before .before .before .before .read .ensures) _ (c .before .before .before .reading .given .1) in
-    let short = subst (λ (h : Header). length out < 16 * h .lines) (sym (yes .1)) (c .if1 .taken) in
-    let answer = own-questions s _ _ (yes .0) (no-room (bytesNeeded (headerOf s .lines)) (bytesNeeded (headerOf s .lines)) (length out) short) in
+    let read = was-read _ _ (c .before .before .before .before .before .read .ensures) _ (c .before .before .before .reading .given .1) in
+    let short = subst (λ (h : Header). length out < 16 * h .lines) (sym (read .parts)) (c .if1 .taken) in
+    let answer = own-questions s _ _ (read .accepted) (no-room (bytesNeeded (headerOf s .lines)) (bytesNeeded (headerOf s .lines)) (length out) short) in
     (answer, buffer-kept s out _ answer)
 
 put-reports-requires : tie.Need-put-reports-requires
 put-reports-requires c κs =
-    let yes = accepted-by-reading _ _ (c .before .before .before .before .before .before .read .ensures) _ (c .before .before .before .before .reading .given .1) in
-    (record { accepted = yes .0; parts = yes .1 }, c .before .if1 .left)
+    let read = was-read _ _ (c .before .before .before .before .before .before .read .ensures) _ (c .before .before .before .before .reading .given .1) in
+    (read, c .before .if1 .left)
 
 same-length : tie.Need-same-length
 same-length c = search needs
@@ -66,10 +64,10 @@ returns-3 c =
     let start = c .before .before .before .before .before .before .before .before .before .before .before .before in
     let s = start .args .sheet .now in
     let out = start .args .out .now in
-    let yes = accepted-by-reading _ _ (c .before .before .before .before .before .before .before .before .before .read .ensures) _ (c .before .before .before .before .before .before .before .reading .given .1) in
-    let long = subst (λ (h : Header). 16 * h .lines ≤ length out) (sym (yes .1)) (c .before .before .before .before .if1 .left) in
-    let need = ap (λ (h : Header). accepted (bytesNeeded (h .lines))) (sym (yes .1)) in
-    let answer = need ∙ own-questions s _ _ (yes .0) (some-room (bytesNeeded (headerOf s .lines)) (bytesNeeded (headerOf s .lines)) (length out) long) in
+    let read = was-read _ _ (c .before .before .before .before .before .before .before .before .before .read .ensures) _ (c .before .before .before .before .before .before .before .reading .given .1) in
+    let long = subst (λ (h : Header). 16 * h .lines ≤ length out) (sym (read .parts)) (c .before .before .before .before .if1 .left) in
+    let need = ap (λ (h : Header). accepted (bytesNeeded (h .lines))) (sym (read .parts)) in
+    let answer = need ∙ own-questions s _ _ (read .accepted) (some-room (bytesNeeded (headerOf s .lines)) (bytesNeeded (headerOf s .lines)) (length out) long) in
     (answer, c .before .before .put-reports .ensures ∙ buffer-written s out _ answer)
 
 pub write-reports-spec : {M : Type 1} → statement M

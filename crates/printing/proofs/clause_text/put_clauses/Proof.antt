@@ -1,6 +1,6 @@
 -- The lists are those of a sheet that reading accepted, with the parts that it gave.
 use borrow.Author.Needs.{needs}
-use Rattle.sheet.proofs.Calling.{accepted-by-reading}
+use Rattle.sheet.proofs.Calling.{was-read}
 use Rattle.printing.proofs.clause_text.put_clauses.Statement.{statement}
 use Rattle.printing.proofs.clause_text.put_clauses.Tie as tie
 
@@ -15,8 +15,8 @@ put-header-requires c κs = search needs
 
 put-lists-requires : tie.Need-put-lists-requires
 put-lists-requires c κs =
-    let yes = accepted-by-reading _ _ (c .before .before .before .before .before .before .read .ensures) _ (c .before .before .before .before .header .given .1) in
-    (search needs, record { accepted = yes .0; parts = yes .1 })
+    let read = was-read _ _ (c .before .before .before .before .before .before .read .ensures) _ (c .before .before .before .before .header .given .1) in
+    (search needs, read)
 
 enum-known-refusal : tie.Need-enum-known-refusal
 enum-known-refusal c = search needs
