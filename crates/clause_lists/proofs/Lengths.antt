@@ -1,7 +1,6 @@
 -- How many clauses a line has, and how many numbers its list: one law for every size that adds up, by how many literals the inputs of
 -- each gate have.
-use mathlib.Core.Path.{_≡_, refl, sym, ap, ap₂, subst, _∙_}
-use mathlib.Core.Logic.{_≢_}
+use mathlib.Core.Path.{_≡_, refl, sym, ap, ap₂, _∙_}
 use mathlib.Core.Bool.{Bool, true, false, cond}
 use mathlib.Core.List.{List, [], _∷_, _++_}
 use Prim.Native.Nat.{ℕ, zero, suc, _+_, _-_, _*_, _≤_, _<_}
@@ -14,7 +13,6 @@ use lib.IntN.{ℤ}
 use lib.ListN.{length, length-append}
 use Rattle.words.specs.Words.{bit, value}
 use Rattle.words.specs.Below.{total, concat}
-use Rattle.words.proofs.Below.{total-cong, total-same}
 use Rattle.trail.specs.declared.Line.{Line}
 use Rattle.trail.specs.Kinds.{kindOf, usesSecond, usesConstant}
 use Rattle.trail.specs.Trail.{Trail, inputCount, lineCount, lineAt}
@@ -30,7 +28,7 @@ use Rattle.clause_lists.specs.Kinds.Carries.{none, made}
 use Rattle.clause_lists.specs.Variables.{Run, bitLiteral, carryLiteral}
 use Rattle.clause_lists.specs.Variables.Run.{firstRun, secondRun}
 use Rattle.clause_lists.specs.Lists.{inputs, nextClauses, bitClauses, runClauses, clausesIn, lineClauses, lineList}
-use Rattle.clause_lists.specs.Sizes.{GateCounts, gatesAs, gateCounts, sizeOf, clausesOfGate, numbersOfGate}
+use Rattle.clause_lists.specs.Sizes.{gatesAs, gateCounts, sizeOf, clausesOfGate, numbersOfGate}
 
 -- a at 0, and b at each of the m numbers after it
 total-after : (m a b : ℕ) (f : ℕ → ℕ) → f 0 ≡ a → ((i : ℕ) → i < m → f (suc i) ≡ b) → total (suc m) f ≡ a + b * m

@@ -1,6 +1,6 @@
 -- Adding two words: the rule of source document 000's Theorem 1 by operations on whole words, all positions at once.
 use mathlib.Core.Path.{_≡_, refl, sym, ap, ap₂, _∙_}
-use mathlib.Core.Bool.{Bool, not, _&&_, _||_, xor}
+use mathlib.Core.Bool.{not, _&&_, _||_, xor}
 use Prim.Native.Nat.{ℕ, _-_, _*_, _%_, _^_, _<_, _≤_}
 use native.Mathlib.Omega.{arith}
 use lib.Bits.{bitAnd, bitOr, bitXor, and-mask, or-mod}

@@ -1,10 +1,9 @@
 -- A line's report (document 01, "Line reports"): one of four, with document 01's number and values.
 use Prim.Native.Nat.{ℕ, _*_}
-use mathlib.Core.Bool.{Bool, cond}
+use mathlib.Core.Bool.{cond}
 use lib.Bits.{bitXor}
 use lib.Dec.{eqb}
 use Rattle.words.specs.Words.{rotateLeft, rotateRight}
-use Rattle.trail.specs.declared.Line.{Line}
 use Rattle.trail.specs.Kinds.{Kind, kindOf}
 use Rattle.trail.specs.Kinds.Kind.{xorWords, xorConstant, rotatesLeft, rotatesRight, addWords, addConstant, unknown}
 use Rattle.differential.specs.declared.Differential.{Differential}
@@ -12,8 +11,6 @@ use Rattle.differential.specs.Fits.{fitting}
 use Rattle.differential.specs.TwoWords.{wordsImpossible, wordsWeight}
 use Rattle.differential.specs.Constant.{chains}
 use Rattle.differential.specs.Weight.{constantWeight}
-use Rattle.differential.specs.declared.WholeBits.{WholeBits}
-use Rattle.differential.specs.declared.Sixteenths.{Sixteenths}
 use Rattle.differential.specs.declared.LineReport.{LineReport}
 use Rattle.differential.specs.declared.LineReport.the-variants.{Impossible, Certain, Halves, Counted}
 

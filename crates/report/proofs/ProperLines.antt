@@ -1,11 +1,10 @@
 -- The differential of each line of an accepted sheet is a proper one.
-use Prim.Native.Nat.{ℕ, _+_, _-_, _^_, _<_, _≤_}
+use Prim.Native.Nat.{ℕ, _+_, _-_, _^_, _<_}
 use native.Mathlib.Decide.{decLt}
 use native.Mathlib.Omega.{arith}
 use mathlib.Core.Path.{_≡_, sym, ap, subst, _∙_}
-use mathlib.Core.List.{List}
 use Rattle.trail.specs.Trail.{Trail, inputCount, lineCount, lineAt, differenceAt}
-use Rattle.trail.specs.WellFormed.{WellFormed, Sized}
+use Rattle.trail.specs.WellFormed.{WellFormed}
 use Rattle.trail.proofs.Differences.{difference-input, difference-line}
 use Rattle.trail.proofs.Runs.{second-below}
 use Rattle.differential.specs.Demand2.{Proper}

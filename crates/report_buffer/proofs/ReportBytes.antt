@@ -1,15 +1,15 @@
 -- The report buffer line by line.
-use Prim.Native.Nat.{ℕ, zero, suc, _+_, _*_, _≤_, _<_}
+use Prim.Native.Nat.{ℕ, zero, suc, _+_, _*_, _≤_}
 use native.Mathlib.Numerals.{add-one}
 use native.Mathlib.Omega.{arith}
 use mathlib.Core.Path.{_≡_, refl, sym, ap, ap₂, _∙_}
 use mathlib.Core.Bool.{cond}
-use mathlib.Core.List.{List, [], _++_, append-assoc}
+use mathlib.Core.List.{List, _++_, append-assoc}
 use lib.ListN.{length, length-append}
 use Rattle.words.specs.Below.{concat}
 use Rattle.buffers.specs.Overwrite.{overwrite}
 use Rattle.buffers.specs.LittleEndian.{bytesOf}
-use Rattle.buffers.proofs.Overwrite.{overwrite-nil, overwrite-length, overwrite-twice}
+use Rattle.buffers.proofs.Overwrite.{overwrite-nil, overwrite-twice}
 use Rattle.buffers.proofs.Appending.{Wrote, wrote-append}
 use Rattle.buffers.proofs.LittleEndian.{length-bytesOf}
 use Rattle.differential.specs.Report.{Report}

@@ -1,6 +1,6 @@
 -- The report buffer (document 01, "Line reports"): 16 bytes a line.
 use Prim.Native.Nat.{ℕ, _*_}
-use mathlib.Core.List.{List, [], _∷_, _++_}
+use mathlib.Core.List.{List, _++_}
 use Rattle.words.specs.Below.{concat}
 use Rattle.buffers.specs.LittleEndian.{bytesOf}
 use Rattle.trail.specs.Trail.{Trail, lineCount}

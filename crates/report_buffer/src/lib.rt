@@ -7,7 +7,7 @@ ghost use Rattle.buffers.specs.Overwrite.{overwrite};
 ghost use Rattle.sheet.specs.Asking.{verdict};
 ghost use Rattle.sheet.specs.Fields.{headerOf, trailOf};
 ghost use Rattle.sheet.specs.Facts.{SheetRead};
-ghost use Rattle.differential.specs.Report.{Report, reportMeans};
+ghost use Rattle.differential.specs.Report.{reportMeans};
 ghost use Rattle.report.specs.Totals.{SmallReport};
 ghost use Rattle.report_buffer.specs.Buffer.{reportBytes, fieldBytes, sheetBytes, bytesNeeded};
 ghost use Rattle.report_buffer.specs.Answers.{bufferMeans, bufferAsks, bufferAfter};

@@ -1,23 +1,22 @@
 -- Demand 2, its last sentence: a sheet that sealing accepts becomes readable, only its checks changed.
-use Prim.Native.Nat.{ℕ, _*_, _/_, _<_, _≤_}
+use Prim.Native.Nat.{ℕ, _*_, _<_, _≤_}
 use native.Mathlib.Omega.{arith}
-use mathlib.Core.Path.{_≡_, refl, sym, ap, ap₂, _∙_, subst}
+use mathlib.Core.Path.{_≡_, sym, ap, ap₂, _∙_, subst}
 use mathlib.Core.Bool.{true}
-use mathlib.Core.List.{List, [], _∷_, _++_}
+use mathlib.Core.List.{List}
 use borrow.Author.Tests.{eq-eqb}
-use lib.Dec.{eqb}
 use lib.ListN.{length}
 use Rattle.buffers.specs.LittleEndian.{numberAt}
 use Rattle.sheet.specs.Asking.{allYes, verdict}
-use Rattle.sheet.specs.Fields.{headerOf, trailOf}
-use Rattle.sheet.specs.Checks.{checkOf, checkPosition}
-use Rattle.sheet.specs.Questions.{lengthQuestions, checkQuestion, checkQuestions, headerQuestions, recordQuestions, lineQuestions, laterQuestions, questions}
+use Rattle.sheet.specs.Fields.{headerOf}
+use Rattle.sheet.specs.Checks.{checkPosition}
+use Rattle.sheet.specs.Questions.{lengthQuestions, checkQuestion, checkQuestions, recordQuestions, lineQuestions, laterQuestions, questions}
 use Rattle.sheet.specs.Answers.{IsAccepted}
 use Rattle.sealing.specs.Sealing.{withChecks, sealed}
 use Rattle.sheet.specs.Facts.{Whole, Limited}
-use Rattle.sealing.specs.Demands.{SameButChecks, Sealed, SealingIsRight, SealedAlike, SealingForgetsChecks}
+use Rattle.sealing.specs.Demands.{SameButChecks, SealingIsRight, SealingForgetsChecks}
 use Rattle.sheet.specs.declared.Header.{Header}
-use Rattle.sheet.specs.declared.Mode.the-variants.{Read, Seal}
+use Rattle.sheet.specs.declared.Mode.the-variants.{Seal}
 use Rattle.sheet.proofs.Asking.{yes-left, yes-right, yes-both, yes-one, yes-each}
 use Rattle.sheet.proofs.Settled.{whole, limited}
 use Rattle.sealing.proofs.OnlyChecks.{same-symm, same-header, same-check, same-questions, same-trail}

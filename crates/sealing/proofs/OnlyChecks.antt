@@ -1,19 +1,19 @@
 -- Lists of bytes that are the same outside the checks have the same fields, the same checks and the same questions, the checks'
 -- own left out.
-use Prim.Native.Nat.{ℕ, zero, suc, _+_, _*_, _-_, _/_, _%_, _^_, _<_, _≤_}
+use Prim.Native.Nat.{ℕ, zero, _+_, _*_, _-_, _/_, _%_, _^_, _<_, _≤_}
 use native.Mathlib.Omega.{arith}
-use mathlib.Core.Path.{_≡_, refl, sym, ap, ap₂, _∙_}
-use mathlib.Core.Bool.{Bool, _&&_, _||_, cond}
+use mathlib.Core.Path.{_≡_, sym, ap, ap₂, _∙_}
+use mathlib.Core.Bool.{_&&_, _||_, cond}
 use mathlib.Core.List.{List, [], _∷_, _++_}
 use lib.Dec.{eqb, ltb}
 use lib.ListN.{length}
 use Rattle.words.specs.Words.{isWord}
-use Rattle.words.specs.Below.{all, total, tabulate, concat}
+use Rattle.words.specs.Below.{all, tabulate}
 use Rattle.words.proofs.Below.{all-cong, total-cong, tabulate-cong, concat-cong}
 use Rattle.buffers.specs.LittleEndian.{byteAt, numberAt}
 use Rattle.buffers.proofs.LittleEndian.{number-cong}
-use Rattle.sheet.specs.Asking.{Question, ask}
-use Rattle.sheet.specs.Fields.{headerOf, inputDifference, recordFrom, recordPosition, recordOf, lineOf, trailOf}
+use Rattle.sheet.specs.Asking.{ask}
+use Rattle.sheet.specs.Fields.{headerOf, inputDifference, recordPosition, recordOf, lineOf, trailOf}
 use Rattle.sheet.specs.Checks.{checkOf}
 use Rattle.sheet.specs.Questions.{zeroBytes, lengthQuestions, checkQuestions, marked, inputRight, headerQuestions, recordQuestions, lineQuestions, recordRest, blockRest, restQuestion, laterQuestions, questions}
 use Rattle.sealing.specs.Demands.{SameButChecks}

@@ -17,7 +17,7 @@ use Rattle.sheet.specs.declared.Refusal.{Refusal}
 use Rattle.sheet.specs.declared.Mode.the-variants.{Read}
 use Rattle.sheet.specs.declared.Reading.{Reading}
 use Rattle.sheet.specs.declared.Reading.the-variants.{Accepted, Refused}
-use Rattle.sheet.proofs.Asking.{go-on, stop, yes-first, yes-verdict, Comes, comes}
+use Rattle.sheet.proofs.Asking.{go-on, stop, yes-first, yes-verdict, comes}
 use Rattle.sheet.proofs.Asking.Comes.{done, yes, no}
 use Rattle.sheet.proofs.Answering.{asked}
 use Rattle.sheet.proofs.WellFormed.{has-read}

@@ -1,16 +1,16 @@
 -- The facts that questions settle, for the code after them and for the theorems about accepted sheets.
-use Prim.Native.Nat.{ℕ, _+_, _*_, _-_, _/_, _%_, _≤_}
+use Prim.Native.Nat.{ℕ, _+_, _-_, _/_, _%_, _≤_}
 use native.Mathlib.Omega.{arith}
 use mathlib.Core.Path.{_≡_}
-use mathlib.Core.Bool.{Bool, true, _&&_, and-eq-true-iff}
-use mathlib.Core.List.{List, [], _∷_}
+use mathlib.Core.Bool.{Bool, true, and-eq-true-iff}
+use mathlib.Core.List.{List, _∷_}
 use borrow.Author.Tests.{eqb-true}
 use lib.Dec.{eqb}
 use lib.ListN.{length}
 use Rattle.words.specs.Below.{all}
 use Rattle.sheet.specs.Asking.{Question, ask, allYes}
 use Rattle.sheet.specs.Fields.{headerOf}
-use Rattle.sheet.specs.Questions.{within, zeroBytes, lengthQuestions, marked, linesRight, inputRight, headerQuestions}
+use Rattle.sheet.specs.Questions.{within, lengthQuestions, linesRight, inputRight, headerQuestions}
 use Rattle.sheet.specs.Facts.{Whole, Limited}
 use Rattle.sheet.specs.declared.Header.{Header}
 use Rattle.sheet.proofs.Asking.{yes-first, yes-rest}

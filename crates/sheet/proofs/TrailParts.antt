@@ -1,11 +1,10 @@
 -- The parts of the trail that a sheet's bytes spell: inputs, lines and differences are the sheet's fields.
 use Prim.Native.Nat.{ℕ, _+_, _-_, _<_, _≤_}
 use native.Mathlib.Omega.{arith}
-use mathlib.Core.Path.{_≡_, sym, ap, _∙_}
+use mathlib.Core.Path.{_≡_, ap, _∙_}
 use mathlib.Core.List.{List}
 use lib.ListN.{getD}
 use Rattle.words.proofs.Below.{length-tabulate, getD-tabulate}
-use Rattle.trail.specs.declared.Line.{Line}
 use Rattle.trail.specs.Trail.{inputCount, lineCount, noLine, lineAt, differenceAt}
 use Rattle.trail.proofs.Differences.{difference-input, difference-line}
 use Rattle.sheet.specs.Fields.{headerOf, inputDifference, recordOf, lineOf, trailOf}

@@ -12,7 +12,7 @@ use Rattle.words.specs.Words.{isWord}
 use Rattle.words.proofs.Below.{all-true}
 use Rattle.trail.specs.declared.Line.{Line}
 use Rattle.trail.specs.Kinds.{kindOf, usesSecond, usesAmount, usesConstant, wantsDistinct}
-use Rattle.trail.specs.Trail.{inputCount, lineCount, lineAt}
+use Rattle.trail.specs.Trail.{inputCount, lineAt}
 use Rattle.trail.specs.WellFormed.{WellFormedLine, WellFormed, Sized}
 use Rattle.trail.proofs.KindNumbers.{known}
 use Rattle.sheet.specs.Asking.{allYes}

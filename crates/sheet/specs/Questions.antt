@@ -12,7 +12,7 @@ use Rattle.trail.specs.Kinds.{kindOf, usesSecond, usesAmount, usesConstant, wan
 use Rattle.trail.specs.Trail.{Trail}
 use Rattle.trail.specs.Runs.{isStart}
 use Rattle.sheet.specs.Asking.{Question, ask}
-use Rattle.sheet.specs.Fields.{headerOf, inputDifference, recordOf, trailOf}
+use Rattle.sheet.specs.Fields.{headerOf, inputDifference, recordOf}
 use Rattle.sheet.specs.Checks.{checkOf, checkPosition}
 use Rattle.sheet.specs.declared.Header.{Header}
 use Rattle.sheet.specs.declared.Record.{Record}

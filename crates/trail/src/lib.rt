@@ -1,7 +1,7 @@
 // What a trail's line is, and the word that it makes.
 ghost use mathlib.Core.Path.{_≡_};
 ghost use mathlib.Core.Bool.{true, cond};
-ghost use Prim.Native.Nat.{ℕ, _^_, _≤_, _<_};
+ghost use Prim.Native.Nat.{_^_, _≤_, _<_};
 ghost use Rattle.trail.specs.Kinds.{kindOf, usesSecond, usesAmount, makes};
 
 // A line: the kind's number, the amount, the two operands' words, the constant and the stated difference.

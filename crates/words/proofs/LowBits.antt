@@ -1,8 +1,8 @@
 -- Words from the low end: `low b x` is the number whose lowest bit is b and whose other bits are x's. By these laws sums, XORs,
 -- remainders, equality and counts go through one bit after the other.
 use mathlib.Core.Path.{_≡_, refl, sym, ap, ap₂, _∙_, subst}
-use Prim.Native.Nat.{ℕ, zero, suc, _+_, _*_, _/_, _%_, _^_, _<_, _≤_}
-use mathlib.Core.Bool.{Bool, true, false, not, _&&_, _||_, cond, xor}
+use Prim.Native.Nat.{ℕ, zero, suc, _+_, _*_, _/_, _%_, _^_}
+use mathlib.Core.Bool.{Bool, true, false, not, _&&_, xor}
 use native.Mathlib.Omega.{arith}
 use native.Mathlib.Nat.{pow-suc}
 use lib.Dec.{eqb, T, eqb→eq, eqb-refl}
@@ -13,7 +13,6 @@ use Rattle.words.specs.Words.{value, bit}
 use Rattle.words.specs.Below.{count, total}
 use Rattle.words.proofs.Bits.{value-inj, bit-zero, bit-suc}
 use Rattle.words.specs.Words.{majority}
-use Rattle.words.proofs.Below.{count-cong, total-cong}
 
 unfoldable pub low : Bool → ℕ → ℕ
 low b x = x * 2 + value b

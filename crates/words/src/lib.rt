@@ -1,6 +1,6 @@
 // Arithmetic of n-bit words, for every width n from 1 to 64.
 ghost use mathlib.Core.Path.{_≡_};
-ghost use Prim.Native.Nat.{ℕ, _-_, _^_, _≤_, _<_};
+ghost use Prim.Native.Nat.{_-_, _^_, _≤_, _<_};
 ghost use Rattle.words.specs.Words.{bit as Words·bit, isWord, sumModulo, rotateLeft, rotateRight};
 
 // 2^n - 1: the largest word.

@@ -1,10 +1,9 @@
+-- The header's questions, asked in their order; the first whose answer is no ends the stage.
 use native.Mathlib.Omega.{arith}
 use borrow.Author.Needs.{needs}
 use Rattle.sheet.specs.Questions.{within, headerQuestions}
 use Rattle.sheet.proofs.Testing.{granted, within-least, within-most}
 use Rattle.sheet.proofs.Answering.{stage}
-use Rattle.sheet.specs.Questions.{headerQuestions}
-use Rattle.sheet.proofs.Testing.{granted}
 use Rattle.header_questions.proofs.header_stage.Tie as tie
 use Rattle.header_questions.proofs.header_stage.Statement.{statement}
 

@@ -1,3 +1,4 @@
+-- An input difference is a word if the sheet has that input, else 0.
 use borrow.Author.Tests.{lt-ltb, le-ltb}
 use borrow.Author.Needs.{needs}
 use Rattle.sheet.specs.Questions.{inputRight}

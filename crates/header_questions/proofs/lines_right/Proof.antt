@@ -1,9 +1,8 @@
+-- The line count and the number of blocks that it needs.
 use native.Mathlib.Omega.{arith}
 use borrow.Author.Needs.{needs}
 use Rattle.sheet.specs.Questions.{within, linesRight}
 use Rattle.sheet.proofs.Testing.{testing, granted, within-most}
-use Rattle.sheet.specs.Questions.{linesRight}
-use Rattle.sheet.proofs.Testing.{testing}
 use Rattle.header_questions.proofs.lines_right.Tie as tie
 use Rattle.header_questions.proofs.lines_right.Statement.{statement}
 

@@ -1,3 +1,4 @@
+-- The four mark bytes, one after the other.
 use borrow.Author.Needs.{needs}
 use Rattle.sheet.specs.Questions.{marked}
 use Rattle.sheet.proofs.Testing.{testing}

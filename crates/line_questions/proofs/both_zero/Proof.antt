@@ -1,3 +1,4 @@
+-- Two tests joined.
 use borrow.Author.Tests.{ne-eqb}
 use Rattle.sheet.proofs.Testing.{testing}
 use Rattle.line_questions.proofs.both_zero.Tie as tie

@@ -1,3 +1,4 @@
+-- The constant is asked of the kinds that use it.
 use borrow.Author.Needs.{needs}
 use Rattle.sheet.specs.Questions.{constantRight}
 use Rattle.sheet.proofs.Testing.{testing}

@@ -1,3 +1,4 @@
+-- The loop's invariant: the questions of all lines passed are answered yes.
 use native.Mathlib.Omega.{arith}
 use Prim.Native.Nat.{_-_, _≤_}
 use mathlib.Core.Path.{_≡_}
@@ -8,7 +9,6 @@ use Rattle.sheet.specs.Asking.{allYes}
 use Rattle.sheet.specs.Questions.{lineQuestions}
 use Rattle.sheet.proofs.Answering.{turn, asked, hands-on}
 use Rattle.sheet.proofs.Asking.{yes-next}
-use Rattle.sheet.proofs.Answering.{turn}
 use Rattle.line_questions.proofs.lines_stage.Tie as tie
 use Rattle.line_questions.proofs.lines_stage.Statement.{statement}
 

@@ -1,3 +1,4 @@
+-- Different operands are asked of the kinds that want them.
 use Rattle.sheet.specs.Questions.{operandsDiffer}
 use Rattle.sheet.proofs.Testing.{testing}
 use Rattle.trail.proofs.KindTests.{kind-tests}

@@ -1,3 +1,4 @@
+-- The second operand is asked of the kinds that use it.
 use Rattle.sheet.specs.Questions.{operandsEarlier}
 use Rattle.sheet.proofs.Testing.{testing}
 use Rattle.trail.proofs.KindTests.{kind-tests}

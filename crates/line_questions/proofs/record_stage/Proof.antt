@@ -1,3 +1,4 @@
+-- A line's seven questions, asked in their order; the first whose answer is no ends the stage.
 use Prim.Native.Nat.{ℕ, _≤_}
 use mathlib.Core.Path.{_≡_}
 use mathlib.Core.Bool.{true}
@@ -5,7 +6,6 @@ use borrow.Author.Needs.{needs}
 use Rattle.sheet.specs.Questions.{within, recordQuestions}
 use Rattle.sheet.proofs.Testing.{granted, within-least, within-most}
 use Rattle.sheet.proofs.Answering.{stage}
-use Rattle.sheet.specs.Questions.{recordQuestions}
 use Rattle.line_questions.proofs.record_stage.Tie as tie
 use Rattle.line_questions.proofs.record_stage.Statement.{statement}
 

@@ -1,3 +1,4 @@
+-- Header, lines, rest: each stage asks what the one before it has settled, or hands its refusal on.
 use mathlib.Core.Path.{sym, _∙_}
 use borrow.Author.Needs.{needs}
 use Rattle.sheet.specs.Questions.{laterQuestions}

@@ -1,8 +1,8 @@
+-- The length settles how many blocks there are.
 use borrow.Author.Needs.{needs}
 use Rattle.sheet.specs.Questions.{within, lengthQuestions}
 use Rattle.sheet.proofs.Testing.{granted, within-least}
 use Rattle.sheet.proofs.Answering.{stage}
-use Rattle.sheet.specs.Questions.{lengthQuestions}
 use Rattle.reading.proofs.length_stage.Tie as tie
 use Rattle.reading.proofs.length_stage.Statement.{statement}
 

@@ -1,3 +1,4 @@
+-- Length, checks, then the later stages: each refusal is handed on as it is.
 use mathlib.Core.Path.{sym, _∙_, subst}
 use lib.ListN.{length}
 use borrow.Author.Needs.{needs}
@@ -6,7 +7,6 @@ use Rattle.sheet.specs.Facts.{Whole}
 use Rattle.sheet.proofs.Answering.{asked, hand-on}
 use Rattle.sheet.proofs.Asking.{go-on}
 use Rattle.sheet.proofs.Settled.{whole}
-use Rattle.sheet.proofs.Answering.{hand-on}
 use Rattle.reading.proofs.stages.Tie as tie
 use Rattle.reading.proofs.stages.Statement.{statement}
 

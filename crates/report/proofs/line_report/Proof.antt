@@ -1,3 +1,4 @@
+-- `line_report` reads, asks for the line, and reports it.
 use Prim.Native.Nat.{_≤_, _<_}
 use mathlib.Core.Path.{sym, ap, _∙_, subst}
 use borrow.Author.Needs.{needs}

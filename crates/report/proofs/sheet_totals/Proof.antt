@@ -1,3 +1,4 @@
+-- `sheet_totals` reads, and sums the reports of what reading accepted.
 use mathlib.Core.Path.{sym, ap, _∙_}
 use borrow.Author.Needs.{needs}
 use Rattle.sheet.specs.declared.Mode.the-variants.{Read as reading}

@@ -1,3 +1,4 @@
+-- The fields of a report, written one after the other, are its bytes.
 use borrow.Author.Needs.{needs}
 use Rattle.report_buffer.proofs.ReportBytes.{fields-written}
 use Rattle.report_buffer.proofs.put_fields.Tie as tie

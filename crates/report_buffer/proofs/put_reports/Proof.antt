@@ -3,8 +3,6 @@ use native.Mathlib.Omega.{arith}
 use Prim.Native.Nat.{ℕ, _*_, _-_, _≤_}
 use mathlib.Core.Path.{_≡_, refl, sym, ap, _∙_, subst}
 use lib.ListN.{length}
-use Prim.Native.Nat.{_-_, _≤_}
-use mathlib.Core.Path.{_≡_}
 use borrow.Author.Needs.{needs}
 use Rattle.buffers.specs.Overwrite.{overwrite}
 use Rattle.words.specs.Below.{concat}
@@ -18,7 +16,6 @@ use Rattle.report.specs.Totals.{SmallReport}
 use Rattle.report_buffer.specs.Buffer.{reportBytes, sheetBytes}
 use Rattle.report.proofs.Demand2.{sheet-report-small}
 use Rattle.report_buffer.proofs.ReportBytes.{reports-none, reports-next}
-use Rattle.report_buffer.specs.Buffer.{reportBytes}
 use Rattle.report_buffer.proofs.put_reports.Tie as tie
 use Rattle.report_buffer.proofs.put_reports.Statement.{statement}
 

@@ -1,8 +1,8 @@
+-- `write_reports` reads, asks for the room, and writes only then.
 use Prim.Native.Nat.{_*_, _≤_, _<_}
 use mathlib.Core.Path.{_≡_, sym, ap, _∙_, subst}
 use lib.ListN.{length}
 use native.Mathlib.Omega.{arith}
-use mathlib.Core.Path.{sym, ap, _∙_, subst}
 use borrow.Author.Needs.{needs}
 use Rattle.sheet.specs.declared.Header.{Header}
 use Rattle.sheet.specs.Asking.{verdict}
@@ -12,7 +12,6 @@ use Rattle.sheet.proofs.Calling.{refused-by-reading, was-read, own-questions, n
 use Rattle.report_buffer.specs.Buffer.{bytesNeeded}
 use Rattle.report_buffer.specs.Answers.{bufferAsks}
 use Rattle.report_buffer.proofs.ReportBytes.{buffer-kept, buffer-written}
-use Rattle.sheet.specs.Asking.Verdict.{accepted}
 use Rattle.report_buffer.proofs.write_reports.Tie as tie
 use Rattle.report_buffer.proofs.write_reports.Statement.{statement}
 

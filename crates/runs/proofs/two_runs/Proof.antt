@@ -1,5 +1,5 @@
 -- `two_runs` reads, asks whether the words are a starting value, and runs: its answer is the verdict of these questions in order.
-use mathlib.Core.Path.{_≡_, sym, _∙_}
+use mathlib.Core.Path.{sym, _∙_}
 use borrow.Author.Needs.{needs}
 use borrow.Author.Tests.{not-true, not-false}
 use Rattle.sheet.proofs.Calling.{refused-by-reading, was-read, own-questions, no-start, some-start}

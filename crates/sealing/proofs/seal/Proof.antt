@@ -1,3 +1,4 @@
+-- Sealing writes the checks only where all its questions are answered yes.
 use mathlib.Core.Path.{sym, ap, _∙_, subst}
 use borrow.Author.Needs.{needs}
 use Rattle.sheet.specs.Questions.{questions}

@@ -1,13 +1,12 @@
+-- The loop's invariant: the checks of the blocks passed are written, and nothing else has changed.
 use native.Mathlib.Omega.{arith}
 use Prim.Native.Nat.{_-_, _≤_}
 use mathlib.Core.Path.{_≡_, refl, _∙_}
 use lib.ListN.{length}
 use borrow.Author.Needs.{needs}
-use mathlib.Core.Path.{_≡_, refl}
 use Rattle.sealing.specs.Sealing.{withChecks}
 use Rattle.sealing.proofs.WrittenChecks.{checks-none, checks-next}
 use Rattle.sheet.proofs.Testing.{same-end}
-use Rattle.sealing.proofs.WrittenChecks.{checks-none}
 use Rattle.sealing.proofs.write_checks.Tie as tie
 use Rattle.sealing.proofs.write_checks.Statement.{statement}
 

@@ -1,3 +1,4 @@
+-- By cases on the answer.
 use mathlib.Core.Path.{sym, ap}
 use borrow.Author.Needs.{needs}
 use Rattle.sheet.specs.Answers.{refusalOf}

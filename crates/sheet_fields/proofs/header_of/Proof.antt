@@ -1,3 +1,4 @@
+-- Each part of the header at its offset.
 use borrow.Author.Needs.{needs}
 use Rattle.sheet_fields.proofs.header_of.Statement.{statement}
 use Rattle.sheet_fields.proofs.header_of.Tie as tie

@@ -1,3 +1,4 @@
+-- Each field of a record at its offset.
 use borrow.Author.Needs.{needs}
 use Rattle.sheet_fields.proofs.record_from.Tie as tie
 use Rattle.sheet_fields.proofs.record_from.Statement.{statement}

@@ -1,3 +1,4 @@
+-- A line's record lies within the sheet's blocks.
 use borrow.Author.Needs.{needs}
 use Rattle.sheet.specs.Fields.{recordOf, recordPosition}
 use Rattle.sheet_fields.proofs.record_of.Tie as tie

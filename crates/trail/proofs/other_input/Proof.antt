@@ -1,6 +1,4 @@
 -- `other_input` is the second operand's word for the kinds that use it, and the constant for every other.
-use mathlib.Core.Bool.{cond}
-use mathlib.Core.Path.{_≡_}
 use Rattle.trail.proofs.KindTests.{second-used, second-unused}
 use Rattle.trail.proofs.other_input.Statement.{statement}
 use Rattle.trail.proofs.other_input.Tie as tie

@@ -1,3 +1,4 @@
+-- What was read of the line and its operands is the trail's differential, which is proper.
 use Prim.Native.Nat.{ℕ, _≤_}
 use mathlib.Core.Path.{_≡_, sym, ap, _∙_, subst}
 use mathlib.Core.List.{List}

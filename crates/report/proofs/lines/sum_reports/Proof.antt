@@ -1,8 +1,8 @@
+-- The loop's invariant: the sums are the totals of the lines passed, and small enough to go on.
 use native.Mathlib.Omega.{arith}
 use Prim.Native.Nat.{_-_, _≤_}
 use mathlib.Core.Path.{_≡_, sym, ap, ap₂, _∙_, subst}
 use borrow.Author.Needs.{needs}
-use mathlib.Core.Path.{_≡_}
 use Rattle.trail.specs.Trail.{lineCount}
 use Rattle.sheet.specs.declared.Header.{Header}
 use Rattle.sheet.specs.declared.Mode.the-variants.{Read as reading}
@@ -12,8 +12,6 @@ use Rattle.sheet.proofs.WellFormed.{accepted-limited}
 use Rattle.report.specs.Totals.{sumsOf, rangeTotals, withReport, SmallReport}
 use Rattle.report.proofs.Demand2.{sheet-report-small}
 use Rattle.report.proofs.Sums.{totals-none, totals-next, totals-small, SmallSums}
-use Rattle.report.specs.Totals.{sumsOf, rangeTotals}
-use Rattle.report.proofs.Sums.{totals-none}
 use Rattle.report.proofs.lines.sum_reports.Tie as tie
 use Rattle.report.proofs.lines.sum_reports.Statement.{statement}
 

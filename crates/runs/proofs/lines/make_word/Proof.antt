@@ -1,3 +1,4 @@
+-- The word that a line makes is stored behind those before it.
 use native.Mathlib.Omega.{arith}
 use borrow.Author.Needs.{needs}
 use Rattle.trail.proofs.Runs.{second-below}

@@ -1,3 +1,4 @@
+-- Both runs make the line's word; the two differ by the stated difference where the answer has a 0.
 use Prim.Native.Nat.{ℕ, _+_}
 use mathlib.Core.Path.{_≡_, sym, ap, ap₂, _∙_}
 use mathlib.Core.List.{List}

@@ -1,3 +1,4 @@
+-- A word is an input or a line's result.
 use native.Mathlib.Omega.{arith}
 use Prim.Native.Nat.{_-_, _≤_, _<_}
 use mathlib.Core.Path.{sym, ap, _∙_, subst}

@@ -1,6 +1,6 @@
+-- A line is its record without the zero field.
 use Prim.Native.Nat.{_<_}
 use mathlib.Core.Path.{sym, ap, _∙_, subst}
-use mathlib.Core.Path.{subst}
 use Rattle.sheet.specs.Facts.{Whole, Limited}
 use Rattle.sheet.specs.Fields.{lineOf}
 use Rattle.sheet.proofs.WellFormed.{accepted-whole, accepted-limited}

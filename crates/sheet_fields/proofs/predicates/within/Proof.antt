@@ -1,3 +1,4 @@
+-- Two tests joined.
 use Rattle.sheet.specs.Questions.{within}
 use Rattle.sheet.proofs.Testing.{testing}
 use Rattle.sheet_fields.proofs.predicates.within.Tie as tie

@@ -1,3 +1,4 @@
+-- Whatever else is wrong with the sheet comes before the room.
 use borrow.Author.Needs.{needs}
 use mathlib.Core.Path.{sym, ap, _∙_}
 use Rattle.sheet.specs.Answers.{readingMeans}

@@ -1,3 +1,4 @@
+-- Three stores are one write of three numbers.
 use borrow.Author.Needs.{needs}
 use native.Mathlib.Omega.{arith}
 use lib.ListN.{length-set}

@@ -1,3 +1,4 @@
+-- Two stores are one write of two numbers.
 use borrow.Author.Needs.{needs}
 use Rattle.tablegull.proofs.Writing.{two-stored}
 use Rattle.tablegull.proofs.answers.put_two.Statement.{statement}

@@ -1,3 +1,4 @@
+-- The call behind it, with its counts written where they fit.
 use borrow.Author.Needs.{needs}
 use mathlib.Core.Path.{refl, sym, ap, _∙_}
 use Rattle.clauses.specs.Answers.{countsMeans}

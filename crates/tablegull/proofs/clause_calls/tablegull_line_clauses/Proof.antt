@@ -1,3 +1,4 @@
+-- The call behind it, with its answer as a struct.
 use borrow.Author.Needs.{needs}
 use mathlib.Core.Path.{sym, ap, _∙_}
 use Rattle.clauses.specs.Answers.{listMeans, listCall}

@@ -1,3 +1,4 @@
+-- The call behind it, with its outcome written where it fits.
 use borrow.Author.Needs.{needs}
 use mathlib.Core.Path.{refl, sym, ap, _∙_}
 use Rattle.sheet.specs.Fields.{trailOf}

@@ -1,8 +1,8 @@
 -- A negative number's size is 1 more than -(z + 1), which is no longer negative.
-use mathlib.Core.Path.{_≡_, sym, subst}
+use mathlib.Core.Path.{sym, subst}
 use Prim.Native.Nat.{_+_}
 use native.Mathlib.Omega.{arith}
-use lib.IntN.{ℤ, pos, natAbs}
+use lib.IntN.{ℤ, natAbs}
 use lib.Dec.{T}
 use lib.Signed.{nonNeg}
 use mir.Syntax.{w32}
