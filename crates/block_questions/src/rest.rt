@@ -10,6 +10,7 @@ ghost use Rattle.sheet.specs.Facts.{Whole};
 use sheet::Header;
 use sheet::Reading;
 use sheet::refused;
+use sheet_fields::RECORD_BYTES;
 use sheet_fields::predicates::zero_bytes;
 
 // Whether record j of line block 1 + i is a line's or zero.
@@ -17,7 +18,7 @@ fn record_rest(s: &[u8], header: Header, i: usize, j: usize) -> bool
     requires { ⌜ (512 * i + 1024 ≤ length (now s)) × (i < 8) × (j < 31) ⌝ }
     ensures { λ r. ⌜ r ≡ recordRest (now (s .entry)) header i j ⌝ }
 {
-    31 * i + j < header.lines || zero_bytes(16, s, 512 * (1 + i) + 16 * j)
+    31 * i + j < header.lines || zero_bytes(RECORD_BYTES, s, 512 * (1 + i) + RECORD_BYTES * j)
 }
 
 // Whether every record of line block 1 + i is a line's or zero.

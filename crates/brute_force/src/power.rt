@@ -1,5 +1,7 @@
-// The sixteenth power of a number, exactly: in 34 limbs of 16 bits, the lowest first.
+// The sixteenth power of a number, exactly: in limbs, the lowest first.
 ghost use Prim.Native.Nat.{_*_, _≤_, _^_};
+
+const LIMB_BITS: u64 = 16;
 
 // 2^32, the largest number that is raised, is 2^512 then.
 const LIMBS: usize = 34;
@@ -61,5 +63,5 @@ fn digits_with(below: u64, i: u64, limb: u64) -> u64
     if limb == 0 {
         return below;
     }
-    16 * i + 64 - (u64::leading_zeros(limb) as u64)
+    LIMB_BITS * i + 64 - (u64::leading_zeros(limb) as u64)
 }

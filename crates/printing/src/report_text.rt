@@ -1,6 +1,7 @@
 // A sheet's report as text: a line for each line of the sheet, with the numbers of the report buffer, then the totals.
 ghost use Prim.Native.Nat.{_+_, _≤_};
 ghost use lib.ListN.{length};
+ghost use Rattle.report_buffer.specs.Buffer.{reportSize};
 use crate::refusals::put_refusal;
 use buffers::byte_at;
 use buffers::u16_at;
@@ -9,15 +10,13 @@ use report::Totals;
 use report::TotalsAnswer;
 use report::sheet_totals;
 use report_buffer::BufferAnswer;
+use report_buffer::REPORT_BYTES;
 use report_buffer::write_reports;
 use text::stream::OUTPUT_BYTES;
 use text::stream::put_byte;
 use text::stream::put_decimal;
 use text::stream::put_number;
 use text::stream::put_text;
-
-// The bytes of a line's report.
-const REPORT_BYTES: usize = 16;
 
 // The reports of 248 lines, the most that a sheet has.
 const BUFFER_BYTES: usize = 3968;
@@ -63,7 +62,7 @@ fn put_reports(out: &mut [u8; OUTPUT_BYTES], at: usize, reports: &[u8]) -> usize
 
 // The report whose fields start at a position of the buffer: ` NAME WEIGHT CHAINS N`, and the line's end.
 fn put_fields(out: &mut [u8; OUTPUT_BYTES], at: usize, reports: &[u8], from: usize) -> usize
-    requires { ⌜ (at ≤ 8192) × (from + 16 ≤ length (now reports)) ⌝ }
+    requires { ⌜ (at ≤ 8192) × (from + reportSize ≤ length (now reports)) ⌝ }
     ensures { λ r. ⌜ r ≤ 8192 ⌝ }
 {
     let named = put_name(out, at, byte_at(reports, from));

@@ -1,5 +1,5 @@
 -- The report buffer line by line.
-use Prim.Native.Nat.{ℕ, zero, suc, _+_, _*_, _≤_}
+use Prim.Native.Nat.{ℕ, zero, suc, _+_, _≤_}
 use native.Mathlib.Numerals.{add-one}
 use native.Mathlib.Omega.{arith}
 use mathlib.Core.Path.{_≡_, refl, sym, ap, ap₂, _∙_}
@@ -17,10 +17,10 @@ use Rattle.sheet.specs.Asking.{verdict}
 use Rattle.sheet.specs.Asking.Verdict.{accepted, refused}
 use Rattle.sheet.specs.Fields.{trailOf}
 use Rattle.sheet.proofs.Asking.{no-verdict, yes-verdict}
-use Rattle.report_buffer.specs.Buffer.{fieldBytes, reportBytes, sheetBytes}
+use Rattle.report_buffer.specs.Buffer.{reportSize, fieldBytes, reportBytes, sheetBytes, bytesNeeded}
 use Rattle.report_buffer.specs.Answers.{bufferAsks, bufferAfter}
 
-pub length-fields : (number chains weight fitting : ℕ) → length (fieldBytes number chains weight fitting) ≡ 16
+pub length-fields : (number chains weight fitting : ℕ) → length (fieldBytes number chains weight fitting) ≡ reportSize
 unfolding fieldBytes
 length-fields number chains weight fitting = simp (length-append, length-bytesOf)
 
@@ -28,7 +28,7 @@ module _ (report : ℕ → Report) where
   abbrev bytes : ℕ → List ℕ
   bytes k = concat k (λ i. reportBytes (report i))
 
-  pub length-reports : (k : ℕ) → length (bytes k) ≡ 16 * k
+  pub length-reports : (k : ℕ) → length (bytes k) ≡ bytesNeeded k
   unfolding concat
   length-reports zero = refl
   length-reports (suc k) =
@@ -39,8 +39,8 @@ module _ (report : ℕ → Report) where
   unfolding concat
   reports-none l = sym (overwrite-nil 0 l)
 
-  pub reports-next : (k : ℕ) (l : List ℕ) {out after : List ℕ} → 16 * k ≤ length l → out ≡ overwrite 0 (bytes k) l
-      → after ≡ overwrite (16 * k) (reportBytes (report k)) out → after ≡ overwrite 0 (bytes (k + 1)) l
+  pub reports-next : (k : ℕ) (l : List ℕ) {out after : List ℕ} → bytesNeeded k ≤ length l → out ≡ overwrite 0 (bytes k) l
+      → after ≡ overwrite (bytesNeeded k) (reportBytes (report k)) out → after ≡ overwrite 0 (bytes (k + 1)) l
   unfolding concat
   reports-next k l room e d =
       d
@@ -48,7 +48,7 @@ module _ (report : ℕ → Report) where
       ∙ overwrite-twice 0 (bytes k) (reportBytes (report k)) l (omega (arith, length-reports k))
       ∙ ap (λ (j : ℕ). overwrite 0 (bytes j) l) (sym (add-one k))
     where
-      start : 16 * k ≡ 0 + length (bytes k)
+      start : bytesNeeded k ≡ 0 + length (bytes k)
       start = omega (arith, length-reports k)
 
 -- ---- one report, field by field
@@ -56,7 +56,7 @@ module _ (report : ℕ → Report) where
 one : (at k v q : ℕ) (l : List ℕ) {m : List ℕ} → q ≡ at + k → m ≡ overwrite at (bytesOf k v) l → Wrote at (bytesOf k v) l q m
 one at k v q l d e = record { next = d ∙ ap (λ (n : ℕ). at + n) (sym (length-bytesOf k v)); now-is = e }
 
-pub fields-written : (at number chains weight fitting : ℕ) (l : List ℕ) {m₁ m₂ m₃ m₄ m₅ : List ℕ} → at + 16 ≤ length l
+pub fields-written : (at number chains weight fitting : ℕ) (l : List ℕ) {m₁ m₂ m₃ m₄ m₅ : List ℕ} → at + reportSize ≤ length l
     → m₁ ≡ overwrite at (bytesOf 1 number) l → m₂ ≡ overwrite (at + 1) (bytesOf 1 0) m₁ → m₃ ≡ overwrite (at + 2) (bytesOf 2 chains) m₂
     → m₄ ≡ overwrite (at + 4) (bytesOf 4 weight) m₃ → m₅ ≡ overwrite (at + 8) (bytesOf 8 fitting) m₄
     → m₅ ≡ overwrite at (fieldBytes number chains weight fitting) l
@@ -93,8 +93,8 @@ fields-written at number chains weight fitting l {m₁} {m₂} {m₃} {m₄} {m�
     third : Wrote at eight l (at + 8) m₄
     third = wrote-append (omega (arith, long₄)) second (one (at + 4) 4 weight (at + 8) m₃ (omega arith) e₄)
 
-    whole : Wrote at (eight ++ bytesOf 8 fitting) l (at + 16) m₅
-    whole = wrote-append (omega (arith, long₈)) third (one (at + 8) 8 fitting (at + 16) m₄ (omega arith) e₅)
+    whole : Wrote at (eight ++ bytesOf 8 fitting) l (at + reportSize) m₅
+    whole = wrote-append (omega (arith, long₈)) third (one (at + 8) 8 fitting (at + reportSize) m₄ (omega arith) e₅)
 
 -- ---- what the call leaves in the buffer
 

@@ -1,4 +1,4 @@
--- The report buffer (document 01, "Line reports"): 16 bytes a line.
+-- The report buffer (document 01, "Line reports").
 use Prim.Native.Nat.{ℕ, _*_}
 use mathlib.Core.List.{List, _++_}
 use Rattle.words.specs.Below.{concat}
@@ -6,6 +6,10 @@ use Rattle.buffers.specs.LittleEndian.{bytesOf}
 use Rattle.trail.specs.Trail.{Trail, lineCount}
 use Rattle.differential.specs.Report.{Report}
 use Rattle.report.specs.Lines.{lineReport}
+
+-- the report buffer takes 16 bytes a line
+abbrev pub reportSize : ℕ
+reportSize = 16
 
 -- the report's number (8 bits); zero (8); chains (16 bits); weight in sixteenths (32); N (64)
 unfoldable pub fieldBytes : ℕ → ℕ → ℕ → ℕ → List ℕ
@@ -21,4 +25,4 @@ sheetBytes t = concat (lineCount t) (λ k. reportBytes (lineReport t k))
 
 -- the bytes that the reports of a number of lines take
 abbrev pub bytesNeeded : ℕ → ℕ
-bytesNeeded lines = 16 * lines
+bytesNeeded lines = reportSize * lines

@@ -1,7 +1,7 @@
 // The report buffer: the reports of all lines, 16 bytes each (document 01, "Line reports"). The call that users make is
 // `write_reports`.
 ghost use mathlib.Core.Path.{_≡_};
-ghost use Prim.Native.Nat.{_+_, _*_, _<_, _≤_};
+ghost use Prim.Native.Nat.{_+_, _≤_};
 ghost use lib.ListN.{length};
 ghost use Rattle.buffers.specs.Overwrite.{overwrite};
 ghost use Rattle.sheet.specs.Asking.{verdict};
@@ -9,7 +9,7 @@ ghost use Rattle.sheet.specs.Fields.{headerOf, trailOf};
 ghost use Rattle.sheet.specs.Facts.{SheetRead};
 ghost use Rattle.differential.specs.Report.{reportMeans};
 ghost use Rattle.report.specs.Totals.{SmallReport};
-ghost use Rattle.report_buffer.specs.Buffer.{reportBytes, fieldBytes, sheetBytes, bytesNeeded};
+ghost use Rattle.report_buffer.specs.Buffer.{reportSize, fieldBytes, reportBytes, sheetBytes, bytesNeeded};
 ghost use Rattle.report_buffer.specs.Answers.{bufferMeans, bufferAsks, bufferAfter};
 use buffers::put_number;
 use differential::LineReport;
@@ -22,7 +22,7 @@ use sheet::Refusal;
 use sheet::refusal_of;
 
 // The bytes of a line's report.
-const REPORT_BYTES: usize = 16;
+pub const REPORT_BYTES: usize = 16;
 
 // How many bytes were written, or the refusal.
 pub enum BufferAnswer {
@@ -51,7 +51,7 @@ pub fn write_reports(sheet: &[u8], out: &mut [u8]) -> BufferAnswer
 
 // Writes the reports of all lines.
 fn put_reports(sheet: &[u8], header: Header, out: &mut [u8])
-    requires { ⌜ SheetRead (now sheet) header × (16 * header .lines ≤ length (now out)) ⌝ }
+    requires { ⌜ SheetRead (now sheet) header × (bytesNeeded (header .lines) ≤ length (now out)) ⌝ }
     ensures { λ _. ⌜ now (out .exit) ≡ overwrite 0 (sheetBytes (trailOf (now (sheet .entry)))) (now (out .entry)) ⌝ }
 {
     let lines = header.lines;
@@ -64,7 +64,7 @@ fn put_reports(sheet: &[u8], header: Header, out: &mut [u8])
 
 // Writes one report from a position on.
 pub fn put_report(out: &mut [u8], at: usize, report: LineReport)
-    requires { ⌜ (at + 16 ≤ length (now out)) × SmallReport (reportMeans report) ⌝ }
+    requires { ⌜ (at + reportSize ≤ length (now out)) × SmallReport (reportMeans report) ⌝ }
     ensures { λ _. ⌜ now (out .exit) ≡ overwrite at (reportBytes (reportMeans report)) (now (out .entry)) ⌝ }
 {
     match report {
@@ -82,7 +82,7 @@ pub fn put_report(out: &mut [u8], at: usize, report: LineReport)
 
 // Writes a report's number, a zero, its chains, its weight in sixteenths and N.
 fn put_fields(out: &mut [u8], at: usize, number: u32, chains: u32, weight: u32, fitting: u64)
-    requires { ⌜ at + 16 ≤ length (now out) ⌝ }
+    requires { ⌜ at + reportSize ≤ length (now out) ⌝ }
     ensures { λ _. ⌜ now (out .exit) ≡ overwrite at (fieldBytes number chains weight fitting) (now (out .entry)) ⌝ }
 {
     put_number(out, at, 1, number as u64);

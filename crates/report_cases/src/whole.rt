@@ -3,6 +3,7 @@ ghost use Prim.Native.Nat.{_≤_};
 use crate::print::put_line;
 use crate::print::put_totals;
 use crate::print::put_written;
+use report_buffer::REPORT_BYTES;
 use sheet::Reading;
 use text::bounded::put_bytes;
 use text::bounded::put_number;
@@ -46,7 +47,7 @@ fn put_sheet(out: &mut [u8], at: usize, sheet: &[u8]) -> usize {
     let reported = put_lines(out, at, sheet, lines);
     let titled = put_text(out, reported, b"\n  totals");
     let summed = put_totals(out, titled, report::sheet_totals(sheet));
-    let need = 16 * lines;
+    let need = REPORT_BYTES * lines;
     let short = put_short_buffer(out, summed, sheet, need);
     let just = put_buffer(out, short, sheet, need);
     put_buffer(out, just, sheet, need + 5)

@@ -1,6 +1,6 @@
 -- Lists of bytes that are the same outside the checks have the same fields, the same checks and the same questions, the checks'
 -- own left out.
-use Prim.Native.Nat.{ℕ, zero, _+_, _*_, _-_, _/_, _%_, _^_, _<_, _≤_}
+use Prim.Native.Nat.{ℕ, _+_, _*_, _-_, _/_, _%_, _^_, _<_, _≤_}
 use native.Mathlib.Omega.{arith}
 use mathlib.Core.Path.{_≡_, sym, ap, ap₂, _∙_}
 use mathlib.Core.Bool.{_&&_, _||_, cond}
@@ -13,7 +13,7 @@ use Rattle.words.proofs.Below.{all-cong, total-cong, tabulate-cong, concat-cong
 use Rattle.buffers.specs.LittleEndian.{byteAt, numberAt}
 use Rattle.buffers.proofs.LittleEndian.{number-cong}
 use Rattle.sheet.specs.Asking.{ask}
-use Rattle.sheet.specs.Fields.{headerOf, inputDifference, recordPosition, recordOf, lineOf, trailOf}
+use Rattle.sheet.specs.Fields.{headerOf, inputDifference, recordSize, recordPosition, recordOf, lineOf, trailOf}
 use Rattle.sheet.specs.Checks.{checkOf}
 use Rattle.sheet.specs.Questions.{zeroBytes, lengthQuestions, checkQuestions, marked, inputRight, headerQuestions, recordQuestions, lineQuestions, recordRest, blockRest, restQuestion, laterQuestions, questions}
 use Rattle.sealing.specs.Demands.{SameButChecks}
@@ -50,7 +50,7 @@ module _ {s t : List ℕ} (h : SameButChecks s t) where
   same-record : (k : ℕ) → recordOf s k ≡ recordOf t k
   unfolding recordOf recordPosition
   same-record k =
-      let p = 512 * (1 + k / 31) + 16 * (k % 31) in
+      let p = 512 * (1 + k / 31) + recordSize * (k % 31) in
       let kind = h .same-byte p (omega arith) in
       let amount = h .same-byte (p + 1) (omega arith) in
       let first = same-number 2 (p + 2) (omega arith) in
@@ -98,7 +98,7 @@ module _ {s t : List ℕ} (h : SameButChecks s t) where
   same-rest p i =
       ap₂ _&&_
       (all-cong 31 (recordRest s p i) (recordRest t p i)
-      (λ j l. ap (λ z. ltb (31 * i + j) (p .lines) || z) (same-zeros 16 (512 * (1 + i) + 16 * j) (omega arith))))
+      (λ j l. ap (λ z. ltb (31 * i + j) (p .lines) || z) (same-zeros recordSize (512 * (1 + i) + recordSize * j) (omega arith))))
       (same-zeros 12 (512 * (1 + i) + 496) (omega arith))
 
   pub same-later : (mode : Mode) (p : Header) → laterQuestions mode s p ≡ laterQuestions mode t p

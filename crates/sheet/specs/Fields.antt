@@ -17,8 +17,11 @@ headerOf s = record { blocks = length s / 512; width = byteAt s 4; inputs = byte
 abbrev pub inputDifference : List ℕ → ℕ → ℕ
 inputDifference s j = numberAt 4 s (8 + 4 * j)
 
--- a record of 16 bytes: kind, amount (a byte each), first operand, second operand, zero (16 bits each), constant, difference
--- (32 bits each)
+-- each block after block 0 has 31 line records of 16 bytes
+abbrev pub recordSize : ℕ
+recordSize = 16
+
+-- a record: kind, amount (a byte each), first operand, second operand, zero (16 bits each), constant, difference (32 bits each)
 abbrev pub recordFrom : List ℕ → ℕ → Record
 recordFrom s i = record {
   kind = byteAt s i;
@@ -30,9 +33,9 @@ recordFrom s i = record {
   difference = numberAt 4 s (i + 12);
 }
 
--- each block after block 0 has 31 line records: where line k's record stands
+-- where line k's record stands
 unfoldable pub recordPosition : ℕ → ℕ
-recordPosition k = 512 * (1 + k / 31) + 16 * (k % 31)
+recordPosition k = 512 * (1 + k / 31) + recordSize * (k % 31)
 
 unfoldable pub recordOf : List ℕ → ℕ → Record
 recordOf s k = recordFrom s (recordPosition k)

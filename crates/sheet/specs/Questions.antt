@@ -12,7 +12,7 @@ use Rattle.trail.specs.Kinds.{kindOf, usesSecond, usesAmount, usesConstant, wan
 use Rattle.trail.specs.Trail.{Trail}
 use Rattle.trail.specs.Runs.{isStart}
 use Rattle.sheet.specs.Asking.{Question, ask}
-use Rattle.sheet.specs.Fields.{headerOf, inputDifference, recordOf}
+use Rattle.sheet.specs.Fields.{headerOf, inputDifference, recordSize, recordOf}
 use Rattle.sheet.specs.Checks.{checkOf, checkPosition}
 use Rattle.sheet.specs.declared.Header.{Header}
 use Rattle.sheet.specs.declared.Record.{Record}
@@ -115,7 +115,7 @@ lineQuestions mode s h k = recordQuestions mode h k (recordOf s k)
 
 -- Line block 1 + i has the records of lines 31 i to 31 i + 30, then 12 bytes: those past L, and the 12 bytes, are zero.
 unfoldable pub recordRest : List ℕ → Header → ℕ → ℕ → Bool
-recordRest s h i j = ltb (31 * i + j) (h .lines) || zeroBytes 16 s (512 * (1 + i) + 16 * j)
+recordRest s h i j = ltb (31 * i + j) (h .lines) || zeroBytes recordSize s (512 * (1 + i) + recordSize * j)
 
 unfoldable pub blockRest : List ℕ → Header → ℕ → Bool
 blockRest s h i = all 31 (recordRest s h i) && zeroBytes 12 s (512 * (1 + i) + 496)

@@ -5,13 +5,16 @@ pub mod predicates;
 ghost use mathlib.Core.Path.{_≡_};
 ghost use Prim.Native.Nat.{_+_, _*_, _<_, _≤_};
 ghost use lib.ListN.{length};
-ghost use Rattle.sheet.specs.Fields.{headerOf, inputDifference, recordFrom, recordOf};
+ghost use Rattle.sheet.specs.Fields.{headerOf, inputDifference, recordSize, recordFrom, recordOf};
 ghost use Rattle.sheet.specs.Facts.{Whole, Limited};
 use buffers::byte_at;
 use buffers::u16_at;
 use buffers::u32_at;
 use sheet::Header;
 use sheet::Record;
+
+// The bytes of a line's record.
+pub const RECORD_BYTES: usize = 16;
 
 // The header's numbers.
 pub fn header_of(s: &[u8]) -> Header
@@ -39,7 +42,7 @@ pub fn input_difference(s: &[u8], j: usize) -> u64
 
 // The record at a position.
 fn record_from(s: &[u8], at: usize) -> Record
-    requires { ⌜ at + 16 ≤ length (now s) ⌝ }
+    requires { ⌜ at + recordSize ≤ length (now s) ⌝ }
     ensures { λ r. ⌜ r ≡ recordFrom (now (s .entry)) at ⌝ }
 {
     let kind = byte_at(s, at);
@@ -65,5 +68,5 @@ pub fn record_of(s: &[u8], header: Header, k: usize) -> Record
     requires { ⌜ Whole (now s) header × Limited header × (k < header .lines) ⌝ }
     ensures { λ r. ⌜ r ≡ recordOf (now (s .entry)) k ⌝ }
 {
-    record_from(s, 512 * (1 + k / 31) + 16 * (k % 31))
+    record_from(s, 512 * (1 + k / 31) + RECORD_BYTES * (k % 31))
 }

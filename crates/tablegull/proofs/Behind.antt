@@ -1,5 +1,5 @@
 -- The calls behind those of the C interface: what they answered, and what is to be shown of it.
-use Prim.Native.Nat.{ℕ, _*_, _<_, _≤_}
+use Prim.Native.Nat.{ℕ, _<_, _≤_}
 use native.Mathlib.Omega.{arith}
 use mathlib.Core.Path.{_≡_, refl, sym, ap, subst, _∙_}
 use mathlib.Core.Bool.{true}
@@ -22,7 +22,7 @@ use Rattle.report.specs.Lines.{lineReport}
 use Rattle.report.specs.Totals.{SmallReport}
 use Rattle.report.specs.Answers.{lineAsks}
 use Rattle.report.proofs.Demand2.{sheet-report-small}
-use Rattle.report_buffer.specs.Buffer.{reportBytes, sheetBytes, bytesNeeded}
+use Rattle.report_buffer.specs.Buffer.{reportSize, reportBytes, sheetBytes, bytesNeeded}
 use Rattle.report_buffer.specs.Answers.{bufferAsks, bufferAfter}
 use Rattle.report_buffer.proofs.ReportBytes.{length-fields, length-reports}
 use Rattle.runs.specs.Outcome.{Outcome, outcome}
@@ -50,18 +50,18 @@ module _ (s : List ℕ) (k : ℕ) {report : Report} (given : verdict (lineAsks s
       subst SmallReport same (sheet-report-small s (yes-left (questions Read s) _ yes) k (omega (arith, trail-lines s)))
 
   module _ (out : List ℕ) {after : List ℕ} {r : TablegullAnswer} where
-    pub report-short : length out < 16 → r ≡ answerOf (refused 18 0) → after ≡ out
+    pub report-short : length out < reportSize → r ≡ answerOf (refused 18 0) → after ≡ out
         → Writes (lineReportAsks s k out) (lineReportBytes (trailOf s) k) out after r
     report-short l d e =
         writes-refused (lineReportAsks s k out) (lineReportBytes (trailOf s) k) out
-        (go-on (lineAsks s k) (roomQuestions 16 (length out)) (length (lineReportBytes (trailOf s) k)) yes ∙ sym (no-room (length (lineReportBytes (trailOf s) k)) 16 (length out) l))
+        (go-on (lineAsks s k) (roomQuestions reportSize (length out)) (length (lineReportBytes (trailOf s) k)) yes ∙ sym (no-room (length (lineReportBytes (trailOf s) k)) reportSize (length out) l))
         d e
 
-    pub report-written : 16 ≤ length out → r ≡ answerOf (accepted 16) → after ≡ overwrite 0 (reportBytes report) out
+    pub report-written : reportSize ≤ length out → r ≡ answerOf (accepted reportSize) → after ≡ overwrite 0 (reportBytes report) out
         → Writes (lineReportAsks s k out) (lineReportBytes (trailOf s) k) out after r
     report-written l d e =
         writes-given (lineReportAsks s k out) (lineReportBytes (trailOf s) k) out
-        (yes-both (lineAsks s k) (roomQuestions 16 (length out)) yes (room-yes 16 (length out) l))
+        (yes-both (lineAsks s k) (roomQuestions reportSize (length out)) yes (room-yes reportSize (length out) l))
         (d ∙ ap (λ n. answerOf (accepted n)) (sym (length-fields _ _ _ _)))
         (e ∙ ap (λ (z : Report). overwrite 0 (reportBytes z) out) (sym same))
 
@@ -72,7 +72,7 @@ pub buffer-writes : (s out : List ℕ) {after : List ℕ} {r : TablegullAnswer}
     → Writes (bufferAsks s out) (sheetBytes (trailOf s)) out after r
 unfolding bufferAfter sheetBytes
 buffer-writes s out d e = record {
-  answer = d ∙ ap (λ (n : ℕ). answerOf (verdict (bufferAsks s out) n)) (ap (λ (n : ℕ). 16 * n) (sym (trail-lines s)) ∙ sym (length-reports (lineReport (trailOf s)) (lineCount (trailOf s))));
+  answer = d ∙ ap (λ (n : ℕ). answerOf (verdict (bufferAsks s out) n)) (ap bytesNeeded (sym (trail-lines s)) ∙ sym (length-reports (lineReport (trailOf s)) (lineCount (trailOf s))));
   buffer = e;
 }
 

@@ -10,14 +10,14 @@ use Rattle.sheet.specs.declared.Mode.the-variants.{Read}
 use Rattle.report.specs.Lines.{lineReport}
 use Rattle.report.specs.Totals.{Sums}
 use Rattle.report.specs.Answers.{lineAsks}
-use Rattle.report_buffer.specs.Buffer.{reportBytes}
+use Rattle.report_buffer.specs.Buffer.{reportSize, reportBytes}
 use Rattle.runs.specs.Outcome.{Outcome}
 use Rattle.runs.specs.Outcome.Outcome.{followed, disagree}
 use Rattle.clauses.specs.declared.Counts.{Counts}
 
--- one line's report: 17, then 18 for its 16 bytes
+-- one line's report: 17, then 18 for its bytes
 abbrev pub lineReportAsks : List ℕ → ℕ → List ℕ → List Question
-lineReportAsks s k out = lineAsks s k ++ roomQuestions 16 (length out)
+lineReportAsks s k out = lineAsks s k ++ roomQuestions reportSize (length out)
 
 -- its bytes of the report buffer
 abbrev pub lineReportBytes : Trail → ℕ → List ℕ

@@ -15,14 +15,12 @@ use report::TotalsAnswer;
 use report::line_report;
 use report::sheet_totals;
 use report_buffer::BufferAnswer;
+use report_buffer::REPORT_BYTES;
 use report_buffer::put_report;
 use report_buffer::write_reports;
 use sheet::Refusal;
 
-// The bytes of a line's report.
-const REPORT_BYTES: usize = 16;
-
-// Writes one line's 16 bytes of the report buffer. Counts bytes.
+// Writes one line's bytes of the report buffer. Counts bytes.
 #[no_mangle]
 pub extern "C" fn tablegull_line_report(sheet: &[u8], line: u64, out: &mut [u8]) -> TablegullAnswer
     ensures { λ r. ⌜ Writes (lineReportAsks (now (sheet .entry)) line (now (out .entry))) (lineReportBytes (trailOf (now (sheet .entry))) line) (now (out .entry)) (now (out .exit)) r ⌝ }

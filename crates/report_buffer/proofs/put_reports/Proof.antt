@@ -1,6 +1,6 @@
 -- The invariant: the reports of the lines passed are written.
 use native.Mathlib.Omega.{arith}
-use Prim.Native.Nat.{ℕ, _*_, _-_, _≤_}
+use Prim.Native.Nat.{ℕ, _-_, _≤_}
 use mathlib.Core.Path.{_≡_, refl, sym, ap, _∙_, subst}
 use lib.ListN.{length}
 use borrow.Author.Needs.{needs}
@@ -13,7 +13,7 @@ use Rattle.sheet.specs.Fields.{trailOf}
 use Rattle.sheet.proofs.TrailParts.{trail-lines}
 use Rattle.report.specs.Lines.{lineReport}
 use Rattle.report.specs.Totals.{SmallReport}
-use Rattle.report_buffer.specs.Buffer.{reportBytes, sheetBytes}
+use Rattle.report_buffer.specs.Buffer.{reportBytes, sheetBytes, bytesNeeded}
 use Rattle.report.proofs.Demand2.{sheet-report-small}
 use Rattle.report_buffer.proofs.ReportBytes.{reports-none, reports-next}
 use Rattle.report_buffer.proofs.put_reports.Tie as tie
@@ -55,7 +55,7 @@ loop-again c =
     let h = c .before .before .before .before .before .before .loop in
     let put = c .before .before .put-report in
     let s = start .args .sheet .now in
-    let written = put .ensures ∙ ap (λ (r : Report). overwrite (16 * h .k) (reportBytes r) (h .out)) (c .before .before .before .report-at .ensures) in
+    let written = put .ensures ∙ ap (λ (r : Report). overwrite (bytesNeeded (h .k)) (reportBytes r) (h .out)) (c .before .before .before .report-at .ensures) in
     (search needs, put .kept .0 ∙ h .inv .1, reports-next (lineReport (trailOf s)) (h .k) _ (omega arith) (h .inv .2) written)
 
 same-length : tie.Need-same-length Inv-loop μ-loop

@@ -1,5 +1,5 @@
 -- `write_reports` reads, asks for the room, and writes only then.
-use Prim.Native.Nat.{_*_, _≤_, _<_}
+use Prim.Native.Nat.{_≤_, _<_}
 use mathlib.Core.Path.{_≡_, sym, ap, _∙_, subst}
 use lib.ListN.{length}
 use native.Mathlib.Omega.{arith}
@@ -46,7 +46,7 @@ returns-2 c =
     let s = start .args .sheet .now in
     let out = start .args .out .now in
     let read = was-read _ _ (c .before .before .before .before .before .read .ensures) _ (c .before .before .before .reading .given .1) in
-    let short = subst (λ (h : Header). length out < 16 * h .lines) (sym (read .parts)) (c .if1 .taken) in
+    let short = subst (λ (h : Header). length out < bytesNeeded (h .lines)) (sym (read .parts)) (c .if1 .taken) in
     let answer = own-questions s _ _ (read .accepted) (no-room (bytesNeeded (headerOf s .lines)) (bytesNeeded (headerOf s .lines)) (length out) short) in
     (answer, buffer-kept s out _ answer)
 
@@ -64,7 +64,7 @@ returns-3 c =
     let s = start .args .sheet .now in
     let out = start .args .out .now in
     let read = was-read _ _ (c .before .before .before .before .before .before .before .before .before .read .ensures) _ (c .before .before .before .before .before .before .before .reading .given .1) in
-    let long = subst (λ (h : Header). 16 * h .lines ≤ length out) (sym (read .parts)) (c .before .before .before .before .if1 .left) in
+    let long = subst (λ (h : Header). bytesNeeded (h .lines) ≤ length out) (sym (read .parts)) (c .before .before .before .before .if1 .left) in
     let need = ap (λ (h : Header). accepted (bytesNeeded (h .lines))) (sym (read .parts)) in
     let answer = need ∙ own-questions s _ _ (read .accepted) (some-room (bytesNeeded (headerOf s .lines)) (bytesNeeded (headerOf s .lines)) (length out) long) in
     (answer, c .before .before .put-reports .ensures ∙ buffer-written s out _ answer)

@@ -2,7 +2,7 @@
 use borrow.Author.Needs.{needs}
 use mathlib.Core.Path.{refl, sym, ap, _∙_}
 use Rattle.report.specs.Answers.{lineMeans}
-use Rattle.report_buffer.specs.Buffer.{reportBytes}
+use Rattle.report_buffer.specs.Buffer.{reportSize, reportBytes}
 use Rattle.tablegull.proofs.Places.{fits, placed-own, placed-line}
 use Rattle.tablegull.proofs.Behind.{report-small, report-short, report-written, values-refused}
 use Rattle.tablegull.proofs.report_calls.tablegull_line_report.Statement.{statement}
@@ -39,7 +39,7 @@ returns-2 : tie.Need-returns-2
 returns-2 c = report-written _ _ (sym (c .before .before .before .before .before .before .before .before .before .line-report .ensures) ∙ ap lineMeans (c .before .before .before .before .before .before .before .answer .given .1)) _ (c .before .before .before .before .before .if1 .left) (c .success .ensures) (c .before .before .before .put-report .ensures)
 
 returns-3 : tie.Need-returns-3
-returns-3 c = values-refused _ _ 16 reportBytes _ (sym (c .before .before .before .before .line-report .ensures) ∙ ap lineMeans (c .before .before .answer2 .given .1)) (c .refused2 .ensures) refl
+returns-3 c = values-refused _ _ reportSize reportBytes _ (sym (c .before .before .before .before .line-report .ensures) ∙ ap lineMeans (c .before .before .answer2 .given .1)) (c .refused2 .ensures) refl
 
 pub tablegull-line-report-spec : {M : Type 1} → statement M
 tablegull-line-report-spec =
