@@ -61,32 +61,33 @@ fn put_counts(out: &mut [u8; OUTPUT_BYTES], at: usize, counts: Counts) -> usize
     put_byte(out, clauses, b'\n')
 }
 
-// The lists of all lines, from line 0 on.
+// The lists of all lines, each written over the one before it.
 fn put_lists(out: &mut [u8; OUTPUT_BYTES], at: usize, sheet: &[u8], header: Header) -> usize
     requires { ⌜ (at ≤ 8192) × SheetRead (now sheet) header ⌝ }
     ensures { λ r. ⌜ r ≤ 8192 ⌝ }
 {
     let lines = header.lines;
+    let mut list = [0i32; LIST_NUMBERS];
     let mut next = at;
     for k in 0..lines {
-        next = put_line(out, next, sheet, header, k);
+        next = put_line(out, next, sheet, header, k, &mut list);
     }
     next
 }
 
-// The list of line k. A refusal would be printed in its place, and not taken for the end of the lines.
+// The list of line k, by way of a buffer. A refusal would be printed in its place, and not taken for the end of the lines.
 fn put_line(
     out: &mut [u8; OUTPUT_BYTES],
     at: usize,
     sheet: &[u8],
     header: Header,
     k: usize,
+    list: &mut [i32],
 ) -> usize
-    requires { ⌜ (at ≤ 8192) × SheetRead (now sheet) header × (k < header .lines) ⌝ }
+    requires { ⌜ (at ≤ 8192) × SheetRead (now sheet) header × (k < header .lines) × (4944 ≤ length (now list)) ⌝ }
     ensures { λ r. ⌜ r ≤ 8192 ⌝ }
 {
-    let mut list = [0i32; LIST_NUMBERS];
-    match write_list(sheet, header, k, &mut list) {
+    match write_list(sheet, header, k, list) {
         ListAnswer::Written(count) => put_list(out, at, &list[0..count]),
         ListAnswer::Refused(refusal) => put_refusal(out, at, refusal),
     }

@@ -5,9 +5,6 @@ use Rattle.printing.proofs.Rooms.{list-within}
 use Rattle.printing.proofs.clause_text.put_line.Statement.{statement}
 use Rattle.printing.proofs.clause_text.put_line.Tie as tie
 
-slice-aggregate-write-list : tie.Need-slice-aggregate-write-list
-slice-aggregate-write-list c = search needs
-
 write-list-requires : tie.Need-write-list-requires
 write-list-requires c κs = search needs
 
@@ -36,8 +33,14 @@ enum-known-refusal c = search needs
 put-refusal-requires : tie.Need-put-refusal-requires
 put-refusal-requires c κs = search needs
 
+same-length : tie.Need-same-length
+same-length c = search needs
+
 returns : tie.Need-returns
 returns c = search needs
+
+same-length-2 : tie.Need-same-length-2
+same-length-2 c = search needs
 
 returns-2 : tie.Need-returns-2
 returns-2 c = search needs
@@ -46,7 +49,6 @@ pub put-line-spec : {M : Type 1} → statement M
 put-line-spec =
     tie.close
     (tie.spec
-    slice-aggregate-write-list
     write-list-requires
     enum-known-count
     sub-put-list
@@ -55,5 +57,7 @@ put-line-spec =
     put-list-requires
     enum-known-refusal
     put-refusal-requires
+    same-length
     returns
+    same-length-2
     returns-2)

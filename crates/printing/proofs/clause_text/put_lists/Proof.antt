@@ -1,17 +1,22 @@
--- The position stays within the output buffer.
+-- The position stays within the output buffer, and the list's buffer keeps its length.
 use Prim.Native.Nat.{_-_, _≤_}
+use mathlib.Core.Path.{_≡_}
+use lib.ListN.{length}
 use borrow.Author.Needs.{needs}
 use Rattle.printing.proofs.clause_text.put_lists.Statement.{statement}
 use Rattle.printing.proofs.clause_text.put_lists.Tie as tie
 
 abbrev Inv-loop : tie.InvT-loop
-Inv-loop out₀ at sheet header lines next₀ k₀ out next k = next ≤ 8192
+Inv-loop out₀ at sheet header lines list₀ next₀ k₀ out list next k = (next ≤ 8192) × (length list ≡ length list₀)
 
 abbrev μ-loop : tie.MeasureT-loop
-μ-loop out₀ at sheet header lines next₀ k₀ out next k = lines - k
+μ-loop out₀ at sheet header lines list₀ next₀ k₀ out list next k = lines - k
 
 loop-holds : tie.Need-loop-holds Inv-loop μ-loop
 loop-holds c = search needs
+
+slice-aggregate-put-line : tie.Need-slice-aggregate-put-line Inv-loop μ-loop
+slice-aggregate-put-line c = search needs
 
 put-line-requires : tie.Need-put-line-requires Inv-loop μ-loop
 put-line-requires c κs = search needs
@@ -31,4 +36,13 @@ returns c = search needs
 pub put-lists-spec : {M : Type 1} → statement M
 put-lists-spec =
     tie.close
-    (tie.spec Inv-loop μ-loop loop-holds put-line-requires add-k loop-less loop-again returns)
+    (tie.spec
+    Inv-loop
+    μ-loop
+    loop-holds
+    slice-aggregate-put-line
+    put-line-requires
+    add-k
+    loop-less
+    loop-again
+    returns)
