@@ -1,1 +1,2 @@
 pub mod CheckSums
+pub mod Rests

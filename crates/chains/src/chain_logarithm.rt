@@ -17,7 +17,7 @@ pub(crate) fn logarithm(p: u64) -> Sixteenths
 }
 
 // M, the place of the highest one.
-fn highest_one(p: u64) -> u32
+pub(crate) fn highest_one(p: u64) -> u32
     requires { ⌜ 0 < p ⌝ }
     ensures { λ r. ⌜ (r ≡ highestOne p) × (r < 64) ⌝ }
 {

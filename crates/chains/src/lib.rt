@@ -3,14 +3,13 @@ mod chain_logarithm;
 
 ghost use mathlib.Core.Path.{_≡_};
 ghost use Prim.Native.Nat.{_+_, _*_, _-_, _<_, _≤_, _^_};
-ghost use mathlib.Core.Bool.{true};
-ghost use Rattle.words.specs.Words.{bitBelow};
 ghost use Rattle.words.specs.Below.{total};
-ghost use Rattle.differential.specs.Constant.{constantFitting, halvings as Constant·halvings, state, is11, quiet, isChain, chains, chainT, chainP};
+ghost use Rattle.differential.specs.Constant.{constantFitting, halvings as Constant·halvings, quiet, chains, chainT, chainP};
 ghost use Rattle.differential.specs.Logarithm.{logarithm as Logarithm·logarithm};
 ghost use Rattle.differential.specs.Weight.{chainCost};
 ghost use Rattle.differential.specs.Report.{reportMeans, constantReport};
-ghost use Rattle.chains.specs.Walked.{Walked};
+ghost use Rattle.chains.specs.Ends.{Loud, ChainEnds};
+use crate::chain_logarithm::highest_one;
 use crate::chain_logarithm::logarithm;
 use carry_pairs::fitting;
 use differential::LineReport;
@@ -29,10 +28,10 @@ pub fn constant_report(n: u32, a: u64, u: u64, v: u64) -> LineReport
     if number.0 == 0 {
         return LineReport::Impossible;
     }
-    let walk = walk_chains(n, a, u, v);
-    let cost = walk.cost;
+    let chains = all_chains(n, a, u, v);
+    let cost = chains.cost;
     let halved = in_sixteenths(halvings(n, u, v));
-    LineReport::Counted(Sixteenths(halved.0 + cost.0), walk.chains, number)
+    LineReport::Counted(Sixteenths(halved.0 + cost.0), chains.number, number)
 }
 
 // H, the number of positions below n with u's and v's bits one place below different.
@@ -43,89 +42,54 @@ fn halvings(n: u32, u: u64, v: u64) -> WholeBits
     WholeBits(u64::count_ones(((u ^ v) << 1) & mask(n)))
 }
 
-// What is known of the positions below one: the cost of their chains, how many chains they have, and how many states 000 stand
-// directly below it.
-struct Walk {
+// The cost of all chains, and how many there are.
+struct Chains {
     cost: Sixteenths,
-    chains: u32,
-    quiet: u32,
+    number: u32,
 }
 
-// The chains of all positions below n.
-fn walk_chains(n: u32, a: u64, u: u64, v: u64) -> Walk
-    requires { ⌜ (n ≤ 32) × (a < 2 ^ n) × (v < 2 ^ n) × (0 < constantFitting n a u v) ⌝ }
-    ensures { λ r. ⌜ (r .cost .0 ≡ total n (chainCost a u v)) × (r .chains ≡ chains n u v) × (r .cost .0 ≤ 16 * n) ⌝ }
+// The chains of all positions below n, from the highest down. Most positions end no chain, so that it goes by the ones of a word.
+fn all_chains(n: u32, a: u64, u: u64, v: u64) -> Chains
+    requires { ⌜ (1 ≤ n) × (n ≤ 32) × (a < 2 ^ n) × (v < 2 ^ n) × (0 < constantFitting n a u v) ⌝ }
+    ensures { λ r. ⌜ (r .cost .0 ≡ total n (chainCost a u v)) × (r .number ≡ chains n u v) × (r .cost .0 ≤ 16 * n) ⌝ }
 {
-    let mut walk = Walk {
-        cost: Sixteenths(0),
-        chains: 0,
-        quiet: 0,
-    };
-    let mut i = 0;
-    while i < n {
-        let next = walk_on(walk, a, u, v, i);
-        walk = next;
-        i += 1;
+    let ends = chain_ends(n, u, v);
+    let mut cost = 0;
+    let mut rest = ends;
+    while rest != 0 {
+        let i = highest_one(rest);
+        let next = chain_cost(a, u, v, quiet_below(u, v, i), i);
+        cost += next.0;
+        rest -= 1 << i;
     }
-    walk
-}
-
-// The walk with position i passed.
-fn walk_on(walk: Walk, a: u64, u: u64, v: u64, i: u32) -> Walk
-    requires { ⌜ Walked a u v i walk × (i < 32) × (a < 2 ^ 32) × (isChain u v i ≡ true → 0 < chainP a u v (quiet u v i) i) ⌝ }
-    ensures { λ r. ⌜ Walked a u v (i + 1) r ⌝ }
-{
-    let k = walk.quiet;
-    let next = next_quiet(u, v, k, i);
-    let passed = walk.cost;
-    if is_chain(u, v, k, i) {
-        let cost = chain_cost(a, u, v, k, i);
-        return Walk {
-            cost: Sixteenths(passed.0 + cost.0),
-            chains: walk.chains + 1,
-            quiet: next,
-        };
-    }
-    Walk {
-        cost: passed,
-        chains: walk.chains,
-        quiet: next,
+    Chains {
+        cost: Sixteenths(cost),
+        number: u64::count_ones(ends),
     }
 }
 
-// The run of states 000 directly below position i + 1, where k of them stand directly below position i.
-fn next_quiet(u: u64, v: u64, k: u32, i: u32) -> u32
-    requires { ⌜ (k ≡ quiet u v i) × (i < 32) ⌝ }
-    ensures { λ r. ⌜ r ≡ quiet u v (i + 1) ⌝ }
+// A one at each position below n where a chain ends: a state 11* there, and a state 000 directly below it.
+fn chain_ends(n: u32, u: u64, v: u64) -> u64
+    requires { ⌜ (1 ≤ n) × (n ≤ 32) ⌝ }
+    ensures { λ r. ⌜ ChainEnds n u v r ⌝ }
 {
-    if bit_below(u, i) || bit_below(v, i) || bit(u ^ v, i) {
-        return 0;
-    }
-    k + 1
+    let both = (u << 1) & (v << 1);
+    (both ^ (both & (loud(u, v) << 1))) & mask(n)
 }
 
-// Whether a chain ends at position i: a state 11* there, and k states 000 directly below it, one at least.
-fn is_chain(u: u64, v: u64, k: u32, i: u32) -> bool
-    requires { ⌜ (k ≡ quiet u v i) × (i < 32) ⌝ }
-    ensures { λ r. ⌜ r ≡ isChain u v i ⌝ }
+// How many states 000 stand directly below position i.
+fn quiet_below(u: u64, v: u64, i: u32) -> u32
+    requires { ⌜ (1 ≤ i) × (i < 32) ⌝ }
+    ensures { λ r. ⌜ r ≡ quiet u v i ⌝ }
 {
-    is_11(u, v, i) && 0 < k
+    i + u64::leading_zeros(loud(u, v) & mask(i)) - 64
 }
 
-// Whether state i is 11*.
-fn is_11(u: u64, v: u64, i: u32) -> bool
-    requires { ⌜ i < 32 ⌝ }
-    ensures { λ r. ⌜ r ≡ is11 (state u v i) ⌝ }
+// A one at each position whose state is not 000.
+fn loud(u: u64, v: u64) -> u64
+    ensures { λ r. ⌜ Loud u v r ⌝ }
 {
-    bit_below(u, i) && bit_below(v, i)
-}
-
-// x[i-1]; bits below position 0 are read as 0.
-fn bit_below(x: u64, i: u32) -> bool
-    requires { ⌜ i < 64 ⌝ }
-    ensures { λ r. ⌜ r ≡ bitBelow 1 x i ⌝ }
-{
-    bit(x << 1, i)
+    (u << 1) | (v << 1) | (u ^ v)
 }
 
 // 16K - A.

@@ -1,6 +1,6 @@
 -- Laws of tests, counts, sums and lists over the numbers below a bound.
 use mathlib.Core.Path.{_≡_, refl, sym, ap, ap₂, subst, _∙_}
-use mathlib.Core.Bool.{Bool, true, false, _&&_, _||_, cond, and-eq-true-iff, or-false, or-true, or-assoc, true≢false}
+use mathlib.Core.Bool.{Bool, true, false, _&&_, _||_, cond, and-assoc, and-eq-true-iff, and-true, or-false, or-true, or-assoc, true≢false}
 use mathlib.Core.List.{List, [], _∷_, _++_}
 use Prim.Native.Nat.{ℕ, zero, suc, _+_, _*_, _/_, _%_, _≤_, _<_}
 use native.Mathlib.Decide.{decLt}
@@ -63,6 +63,17 @@ all-fails b p k l no-pass = at (all b p) refl
     at : (t : Bool) → all b p ≡ t → t ≡ false
     at false e = refl
     at true e = absurd (true≢false (sym (all-true b p e k l) ∙ no-pass))
+
+pub all-split : (a b : ℕ) (p : ℕ → Bool) → all (a + b) p ≡ (all a p && all b (λ i. p (a + i)))
+unfolding all
+all-split a zero p = ap (λ (z : ℕ). all z p) (add-zero a) ∙ sym (and-true (all a p))
+all-split a (suc b) p =
+    ap (λ (z : ℕ). all z p) next
+    ∙ ap (λ t. t && p (a + b)) (all-split a b p)
+    ∙ and-assoc (all a p) (all b (λ i. p (a + i))) (p (a + b))
+  where
+    next : a + suc b ≡ suc (a + b)
+    next = omega arith
 
 pub all-cong : (b : ℕ) (p q : ℕ → Bool) → ((k : ℕ) → k < b → p k ≡ q k) → all b p ≡ all b q
 unfolding all

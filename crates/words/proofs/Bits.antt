@@ -1,13 +1,13 @@
 -- The bits of a word, and the word of given bits.
 use mathlib.Core.Path.{_≡_, refl, sym, ap, ap₂, _∙_}
 use mathlib.Core.Bool.{Bool, true, false, not, _&&_, _||_, xor, cond}
-use Prim.Native.Nat.{ℕ, zero, suc, _+_, _*_, _-_, _/_, _%_, _^_, _<_, max}
+use Prim.Native.Nat.{ℕ, zero, suc, _+_, _*_, _-_, _/_, _%_, _^_, _<_, min, max}
 use native.Mathlib.Nat.{add-comm, div-one, mod-lt, mul-assoc, mul-mod-left, pow-suc, suc-sub-suc, zero-div}
 use native.Mathlib.Decide.{decLt, ℕ-discrete}
 use native.Mathlib.Numerals.{one-add}
 use native.Mathlib.Omega.{arith}
 use lib.Arith.{digits-mod}
-use lib.Bits.{bitOr, bitXor, differ, or-step, or-shr, xor-lt, xor-step, xor-shr}
+use lib.Bits.{bitAnd, bitOr, bitXor, differ, and-step, and-shr, or-step, or-shr, xor-lt, xor-step, xor-shr}
 use lib.Dec.{eqb, ltb, leb·suc-suc}
 use borrow.Author.Tests.{lt-ltb, le-ltb, eq-eqb, ne-eqb}
 use mir.Val.{boolByte}
@@ -179,6 +179,19 @@ pub bit-or : (x y i : ℕ) → bit (bitOr x y) i ≡ (bit x i || bit y i)
 bit-or x y i =
     bit-by-bit max _||_ (bitOr (x / 2 ^ i / 2) (y / 2 ^ i / 2)) x y (bitOr x y) i max-value
     (or-shr x y i ∙ or-step (x / 2 ^ i) (y / 2 ^ i))
+
+-- ---- AND
+
+min-value : (a b : Bool) → min (value a) (value b) ≡ value (a && b)
+min-value false false = refl
+min-value false true = refl
+min-value true false = refl
+min-value true true = refl
+
+pub bit-and : (x y i : ℕ) → bit (bitAnd x y) i ≡ (bit x i && bit y i)
+bit-and x y i =
+    bit-by-bit min _&&_ (bitAnd (x / 2 ^ i / 2) (y / 2 ^ i / 2)) x y (bitAnd x y) i min-value
+    (and-shr x y i ∙ and-step (x / 2 ^ i) (y / 2 ^ i))
 
 -- ---- bits below a position
 

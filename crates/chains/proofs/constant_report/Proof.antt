@@ -10,8 +10,8 @@ fitting-requires c κs = search needs
 returns : tie.Need-returns
 returns c = rw (← c .before .before .fitting .ensures .0, c .if1 .taken)
 
-walk-chains-requires : tie.Need-walk-chains-requires
-walk-chains-requires c κs = search needs
+all-chains-requires : tie.Need-all-chains-requires
+all-chains-requires c κs = search needs
 
 halvings-requires : tie.Need-halvings-requires
 halvings-requires c κs = search needs
@@ -27,8 +27,8 @@ unfolding constantWeight
 returns-2 c =
     let some = c .before .before .before .before .before .before .if1 .left in
     let fit = c .before .before .before .before .before .before .before .before .fitting in
-    let walk = c .before .before .before .before .before .walk-chains in
-    rw (← fit .ensures .0, ne-eqb (fit .result .0) 0 some, c .before .before .in-sixteenths .ensures, c .before .before .before .halvings .ensures .0, walk .ensures .0, walk .ensures .1)
+    let chains = c .before .before .before .before .before .all-chains in
+    rw (← fit .ensures .0, ne-eqb (fit .result .0) 0 some, c .before .before .in-sixteenths .ensures, c .before .before .before .halvings .ensures .0, chains .ensures .0, chains .ensures .1)
 
 pub constant-report-spec : {M : Type 1} → statement M
 constant-report-spec =
@@ -36,7 +36,7 @@ constant-report-spec =
     (tie.spec
     fitting-requires
     returns
-    walk-chains-requires
+    all-chains-requires
     halvings-requires
     in-sixteenths-requires
     add-t11
