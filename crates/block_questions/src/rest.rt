@@ -26,8 +26,7 @@ fn block_rest(s: &[u8], header: Header, i: usize) -> bool
     if 31 <= lines {
         return zero_bytes(12, s, start + 496);
     }
-    let used = RECORD_BYTES * lines;
-    zero_bytes(508 - used, s, start + used)
+    zero_bytes(508 - RECORD_BYTES * lines, s, start + RECORD_BYTES * lines)
 }
 
 // Question 16 of every line block.
