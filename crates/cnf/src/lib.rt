@@ -14,16 +14,34 @@ ghost use Rattle.cnf.specs.Tables.{tableGate, Small};
 use words::bit;
 
 // Writes the clauses that tie the last literal to the others by the table: bit t of the table is the output at the inputs' row t.
-// Returns the next place.
+// Returns the next place. Each usual length stands in an arm of its own as a constant, by which the compiler unrolls the loops.
 pub fn put_gate(out: &mut [i32], at: usize, lits: &[i32], table: u32) -> usize
-    requires { ⌜ (1 ≤ length (now lits)) × (length (now lits) ≤ 4) × Small (now lits) × (at + length (numbers (tableGate (now lits) table)) ≤ length (now out)) ⌝ }
-    ensures { λ r. ⌜ (r ≡ at + length (numbers (tableGate (now (lits .entry)) table))) × (now (out .exit) ≡ overwrite at (numbers (tableGate (now (lits .entry)) table)) (now (out .entry))) ⌝ }
+    requires { ⌜ (1 ≤ length (now lits)) × (length (now lits) ≤ 4) × Small (now lits)
+        × (at + length (numbers (tableGate (now lits) table)) ≤ length (now out)) ⌝ }
+    ensures { λ r. ⌜ (r ≡ at + length (numbers (tableGate (now (lits .entry)) table)))
+        × (now (out .exit) ≡ overwrite at (numbers (tableGate (now (lits .entry)) table)) (now (out .entry))) ⌝ }
 {
-    let rows = 1u32 << (lits.len() - 1);
+    let count = lits.len();
+    match count {
+        2 => put_rows(out, at, lits, 2, table),
+        3 => put_rows(out, at, lits, 3, table),
+        4 => put_rows(out, at, lits, 4, table),
+        _ => put_rows(out, at, lits, count, table),
+    }
+}
+
+// The same of `count` literals, by a loop over the inputs' rows, of which each gives one clause.
+fn put_rows(out: &mut [i32], at: usize, lits: &[i32], count: usize, table: u32) -> usize
+    requires { ⌜ (length (now lits) ≡ count) × (1 ≤ count) × (count ≤ 4) × Small (now lits)
+        × (at + length (numbers (tableGate (now lits) table)) ≤ length (now out)) ⌝ }
+    ensures { λ r. ⌜ (r ≡ at + length (numbers (tableGate (now (lits .entry)) table)))
+        × (now (out .exit) ≡ overwrite at (numbers (tableGate (now (lits .entry)) table)) (now (out .entry))) ⌝ }
+{
+    let rows = 1u32 << (count - 1);
     let mut next = at;
     let mut inputs = 0u32;
     while inputs < rows {
-        next = put_clause(out, next, lits, wrong_row(table, inputs));
+        next = put_clause(out, next, lits, count, wrong_row(table, inputs));
         inputs += 1;
     }
     next
@@ -43,11 +61,12 @@ fn wrong_row(table: u32, inputs: u32) -> u32
 }
 
 // Writes the clause of a row, and 0: each literal negated where the row has 1, the first literal's bit highest.
-fn put_clause(out: &mut [i32], at: usize, lits: &[i32], row: u32) -> usize
-    requires { ⌜ (length (now lits) ≤ 4) × Small (now lits) × (at + length (numbers (clauseOf (now lits) row ∷ [])) ≤ length (now out)) ⌝ }
-    ensures { λ r. ⌜ (r ≡ at + length (numbers (clauseOf (now (lits .entry)) row ∷ []))) × (now (out .exit) ≡ overwrite at (numbers (clauseOf (now (lits .entry)) row ∷ [])) (now (out .entry))) ⌝ }
+fn put_clause(out: &mut [i32], at: usize, lits: &[i32], count: usize, row: u32) -> usize
+    requires { ⌜ (length (now lits) ≡ count) × (count ≤ 4) × Small (now lits)
+        × (at + length (numbers (clauseOf (now lits) row ∷ [])) ≤ length (now out)) ⌝ }
+    ensures { λ r. ⌜ (r ≡ at + length (numbers (clauseOf (now (lits .entry)) row ∷ [])))
+        × (now (out .exit) ≡ overwrite at (numbers (clauseOf (now (lits .entry)) row ∷ [])) (now (out .entry))) ⌝ }
 {
-    let count = lits.len();
     let mut i = 0;
     while i < count {
         let behind = count - 1 - i;

@@ -1,9 +1,9 @@
 -- The invariant: the literals before i are written, and the others and 0 are left. The measure is how many literals are left.
 use native.Mathlib.Omega.{arith}
-use mathlib.Core.Path.{_≡_, ap, _∙_}
+use mathlib.Core.Path.{_≡_, sym, ap, _∙_}
 use mathlib.Core.Bool.{Bool, cond}
 use mathlib.Core.List.{[]}
-use Prim.Native.Nat.{_+_, _-_, _≤_}
+use Prim.Native.Nat.{ℕ, _+_, _-_, _≤_}
 use lib.ListN.{length, getD, set, length-set}
 use lib.IntN.{ℤ, pos, negℤ}
 use mir.Syntax.{w32}
@@ -17,18 +17,18 @@ use Rattle.cnf.proofs.put_clause.Statement.{statement}
 use Rattle.cnf.proofs.put_clause.Tie as tie
 
 abbrev Inv-loop : tie.InvT-loop
-Inv-loop out₀ at lits row count i₀ out i =
+Inv-loop out₀ at lits count row i₀ out i =
     (i ≤ count) × (at + (length lits + 1) ≤ length out₀) × Left at (clauseFrom lits row 0) out₀ (at + i) (clauseFrom lits row i) out
 
 abbrev μ-loop : tie.MeasureT-loop
-μ-loop out₀ at lits row count i₀ out i = count - i
+μ-loop out₀ at lits count row i₀ out i = count - i
 
 loop-holds : tie.Need-loop-holds Inv-loop μ-loop
 loop-holds c =
     let a = c .args in (
       omega arith,
       omega (arith, length-numbers-clause (now (a .lits)) (a .row)),
-      put-start (now (a .lits)) (a .row) (a .at) [] (now (a .out)) [] (c .pre .2),
+      put-start (now (a .lits)) (a .row) (a .at) [] (now (a .out)) [] (c .pre .3),
     )
 
 sub-behind : tie.Need-sub-behind Inv-loop μ-loop
@@ -51,7 +51,7 @@ bit-requires c κs = omega arith
 
 signed-requires : tie.Need-signed-requires Inv-loop μ-loop
 signed-requires c κs =
-    let small = c .before .before .before .before .pre .1 (c .before .before .before .loop .i) in
+    let small = c .before .before .before .before .pre .2 (c .before .before .before .loop .i) in
     rw (same _ small) small
 
 add-t10 : tie.Need-add-t10 Inv-loop μ-loop
@@ -75,9 +75,9 @@ loop-again c =
     let a = start .args in
     let h = c .before .before .before .before .loop in
     let read : ℤ = toZ w32 (ofZ w32 (getD (now (a .lits)) (h .i) (pos 0))) in
-    let made = c .signed .ensures ∙ ap (λ (b : Bool). cond b (negℤ read) read) (c .before .bit .ensures) in
-    let one = bit (a .row) (length (now (a .lits)) - 1 - h .i) in
-    let x = stored one (getD (now (a .lits)) (h .i) (pos 0)) (c .signed .result) (start .pre .1 (h .i)) made in
+    let one = c .before .bit .ensures ∙ ap (λ (n : ℕ). bit (a .row) (n - 1 - h .i)) (sym (start .pre .0)) in
+    let made = c .signed .ensures ∙ ap (λ (b : Bool). cond b (negℤ read) read) one in
+    let x = stored (bit (a .row) (length (now (a .lits)) - 1 - h .i)) (getD (now (a .lits)) (h .i) (pos 0)) (c .signed .result) (start .pre .2 (h .i)) made in
     (omega arith, h .inv .1, put-next (now (a .lits)) (a .row) (a .at) _ _ _ (h .i) _ (omega arith) (h .inv .2) x)
 
 add-out : tie.Need-add-out Inv-loop μ-loop
@@ -102,9 +102,8 @@ returns : tie.Need-returns Inv-loop μ-loop
 returns c =
     let a = c .before .before .args in
     let h = c .before .loop in
-    let e : h .i ≡ length (now (a .lits)) = omega arith in
-    let w : Wrote (a .at) (clauseFrom (now (a .lits)) (a .row) 0) (now (a .out)) (a .at + length (now (a .lits)) + 1)
-    (set (h .out) (a .at + length (now (a .lits))) (pos 0)) =
+    let e : h .i ≡ a .count = omega arith in
+    let w : Wrote (a .at) (clauseFrom (now (a .lits)) (a .row) 0) (now (a .out)) (a .at + a .count + 1) (set (h .out) (a .at + a .count) (pos 0)) =
     rw e at (put-end (now (a .lits)) (a .row) (a .at) _ _ _ (h .i) (omega arith) (h .inv .2)) in
     (w .next, w .now-is)
 

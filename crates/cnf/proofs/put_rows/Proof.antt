@@ -1,6 +1,6 @@
 -- The invariant: the clauses of the inputs' rows passed are written. The measure is how many rows are left.
 use native.Mathlib.Omega.{arith}
-use mathlib.Core.Path.{_≡_, refl, _∙_, subst}
+use mathlib.Core.Path.{_≡_, refl, ap, _∙_, subst}
 use mathlib.Core.List.{List, [], _∷_}
 use Prim.Native.Nat.{ℕ, _+_, _-_, _^_, _≤_}
 use lib.ListN.{length}
@@ -13,24 +13,29 @@ use Rattle.cnf.specs.Gates.{clauseOf}
 use Rattle.cnf.specs.Tables.{tableGate}
 use Rattle.cnf.proofs.Tables.{wrongClause, table-pairs}
 use Rattle.cnf.proofs.Writing.{rows-start, row-fits, rows-next, rows-le, rows-are}
-use Rattle.cnf.proofs.put_gate.Statement.{statement}
-use Rattle.cnf.proofs.put_gate.Tie as tie
+use Rattle.cnf.proofs.put_rows.Statement.{statement}
+use Rattle.cnf.proofs.put_rows.Tie as tie
 
--- room for the gate is room for the clauses of the inputs' rows
-room : (lits : List ℤ) (table at : ℕ) (out : List ℤ) → 1 ≤ length lits → at + length (numbers (tableGate lits table)) ≤ length out
-    → at + length (numbers (concat (2 ^ (length lits - 1)) (wrongClause lits table))) ≤ length out
-room lits table at out some h = rw (table-pairs lits table some) at h
+module _ (lits : List ℤ) (count table : ℕ) (e : length lits ≡ count) (some : 1 ≤ count) where
+  -- the gate is the clauses of the inputs' rows
+  pairs : tableGate lits table ≡ concat (2 ^ (count - 1)) (wrongClause lits table)
+  pairs = table-pairs lits table (omega arith) ∙ ap (λ (n : ℕ). concat (2 ^ (n - 1)) (wrongClause lits table)) e
+
+  -- room for it is room for them
+  room : (at : ℕ) (out : List ℤ) → at + length (numbers (tableGate lits table)) ≤ length out
+      → at + length (numbers (concat (2 ^ (count - 1)) (wrongClause lits table))) ≤ length out
+  room at out h = rw pairs at h
 
 abbrev Inv-loop : tie.InvT-loop
-Inv-loop out₀ at lits table rows next₀ inputs₀ out next inputs =
-    (inputs ≤ rows) × (rows ≡ 2 ^ (length lits - 1)) × (rows ≤ 8) × (length out ≡ length out₀)
+Inv-loop out₀ at lits count table rows next₀ inputs₀ out next inputs =
+    (inputs ≤ rows) × (rows ≡ 2 ^ (count - 1)) × (rows ≤ 8) × (length out ≡ length out₀)
     × Wrote at (numbers (concat inputs (wrongClause lits table))) out₀ next out
 
 abbrev μ-loop : tie.MeasureT-loop
-μ-loop out₀ at lits table rows next₀ inputs₀ out next inputs = rows - inputs
+μ-loop out₀ at lits count table rows next₀ inputs₀ out next inputs = rows - inputs
 
 sub-rows : tie.Need-sub-rows Inv-loop μ-loop
-sub-rows c = c .pre .0
+sub-rows c = c .pre .1
 
 cast-rows : tie.Need-cast-rows Inv-loop μ-loop
 cast-rows c = omega arith
@@ -41,13 +46,13 @@ shl-rows c = omega arith
 loop-holds : tie.Need-loop-holds Inv-loop μ-loop
 loop-holds c =
     let a = c .args in
-    let e = rows-are (length (now (a .lits)) - 1) (omega arith) in (
+    let e = rows-are (a .count - 1) (omega arith) in (
       omega arith,
       e,
-      omega (arith, e, rows-le (length (now (a .lits)) - 1) (omega arith)),
+      omega (arith, e, rows-le (a .count - 1) (omega arith)),
       refl,
-      rows-start (wrongClause (now (a .lits)) (a .table)) (2 ^ (length (now (a .lits)) - 1)) (a .at) (now (a .out))
-          (room (now (a .lits)) (a .table) (a .at) (now (a .out)) (c .pre .0) (c .pre .3)),
+      rows-start (wrongClause (now (a .lits)) (a .table)) (2 ^ (a .count - 1)) (a .at) (now (a .out))
+          (room (now (a .lits)) (a .count) (a .table) (c .pre .0) (c .pre .1) (a .at) (now (a .out)) (c .pre .4)),
     )
 
 wrong-row-requires : tie.Need-wrong-row-requires Inv-loop μ-loop
@@ -58,11 +63,12 @@ put-clause-requires c κs =
     let start = c .before .before .before .before in
     let a = start .args in
     let h = c .before .before .before .loop in (
-      start .pre .1,
+      start .pre .0,
       start .pre .2,
+      start .pre .3,
       rw (c .wrong-row .ensures)
-          (row-fits (wrongClause (now (a .lits)) (a .table)) (2 ^ (length (now (a .lits)) - 1)) (a .at) (now (a .out))
-          (room (now (a .lits)) (a .table) (a .at) (now (a .out)) (start .pre .0) (start .pre .3))
+          (row-fits (wrongClause (now (a .lits)) (a .table)) (2 ^ (a .count - 1)) (a .at) (now (a .out))
+          (room (now (a .lits)) (a .count) (a .table) (start .pre .0) (start .pre .1) (a .at) (now (a .out)) (start .pre .4))
           (h .inputs) (h .next) (h .out) (omega arith) (h .inv .4) (h .inv .3)),
     )
 
@@ -85,8 +91,8 @@ loop-again c =
       h .inv .1,
       h .inv .2,
       put .kept .0 ∙ h .inv .3,
-      rows-next (wrongClause (now (a .lits)) (a .table)) (2 ^ (length (now (a .lits)) - 1)) (a .at) (now (a .out))
-          (room (now (a .lits)) (a .table) (a .at) (now (a .out)) (start .pre .0) (start .pre .3))
+      rows-next (wrongClause (now (a .lits)) (a .table)) (2 ^ (a .count - 1)) (a .at) (now (a .out))
+          (room (now (a .lits)) (a .count) (a .table) (start .pre .0) (start .pre .1) (a .at) (now (a .out)) (start .pre .4))
           (h .inputs) (h .next) _ (h .out) _ (omega arith) (h .inv .4) wrote,
     )
 
@@ -95,15 +101,16 @@ same-length c = c .before .loop .inv .3
 
 returns : tie.Need-returns Inv-loop μ-loop
 returns c =
-    let a = c .before .before .args in
+    let start = c .before .before in
+    let a = start .args in
     let h = c .before .loop in
-    let e : h .inputs ≡ 2 ^ (length (now (a .lits)) - 1) = omega arith in
+    let e : h .inputs ≡ 2 ^ (a .count - 1) = omega arith in
     let w : Wrote (a .at) (numbers (tableGate (now (a .lits)) (a .table))) (now (a .out)) (h .next) (h .out) =
-    rw (table-pairs (now (a .lits)) (a .table) (c .before .before .pre .0)) (rw e at (h .inv .4)) in
+    rw (pairs (now (a .lits)) (a .count) (a .table) (start .pre .0) (start .pre .1)) (rw e at (h .inv .4)) in
     (w .next, w .now-is)
 
-pub put-gate-spec : {M : Type 1} → statement M
-put-gate-spec =
+pub put-rows-spec : {M : Type 1} → statement M
+put-rows-spec =
     tie.close
     (tie.spec
     Inv-loop
