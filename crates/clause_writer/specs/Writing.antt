@@ -1,19 +1,22 @@
 -- What the inner functions that write a line's list cite: one run of a line as the code holds it.
-use Prim.Native.Nat.{ℕ, _+_, _-_, _*_, _/_, _%_, _≤_, _<_, _^_}
+use Prim.Native.Nat.{ℕ, _+_, _-_, _*_, _/_, _≤_, _<_, _^_}
 use mathlib.Core.Path.{_≡_}
 use mathlib.Core.Bool.{Bool, cond}
-use mathlib.Core.List.{List}
-use lib.Dec.{eqb}
-use lib.ListN.{length}
+use mathlib.Core.List.{List, [], _∷_, _++_}
+use lib.Dec.{eqb, ltb}
+use lib.ListN.{length, take}
 use lib.IntN.{ℤ, pos, negℤ}
+use lib.Signed.{mag}
 use Rattle.words.specs.Words.{bit}
-use Rattle.trail.specs.declared.Line.{Line}
-use Rattle.trail.specs.Kinds.{Kind, kindOf}
-use Rattle.trail.specs.Kinds.Kind.{xorWords, xorConstant, rotatesLeft, rotatesRight, addWords, addConstant, unknown}
+use Rattle.trail.specs.Kinds.{kindOf}
 use Rattle.trail.specs.WellFormed.{WellFormedLine}
+use Rattle.cnf.specs.Formulas.{numbers}
 use Rattle.cnf.specs.Gates.{Input, literals, valuesIn}
-use Rattle.clause_lists.specs.Lists.{inputs, bitClauses, runClauses}
+use Rattle.cnf.specs.Tables.{tableGate, Small}
+use Rattle.clause_lists.specs.Kinds.{Taken, gates, takenInput, otherInputs, carryInputs}
+use Rattle.clause_lists.specs.Lists.{inputs, nextClauses, bitClauses, runClauses}
 use Rattle.clause_writer.specs.declared.LineRun.{LineRun}
+use Rattle.clause_writer.specs.declared.inputs.Inputs.{Inputs}
 
 -- bit i of word j of n bits: its variable, negated where the bit of a difference is 1
 unfoldable pub signedLiteral : ℕ → ℕ → ℕ → ℕ → ℤ
@@ -29,28 +32,56 @@ wordIn r j i = signedLiteral (r .width) j (differenceIn r j) i
 unfoldable pub carryIn : LineRun → ℕ → ℤ
 carryIn r i = pos (r .carries + i)
 
--- which bit of the first operand bit i takes: rotations take another than their own
-abbrev pub firstBitAs : Kind → ℕ → Line → ℕ → ℕ
-firstBitAs xorWords n l i = i
-firstBitAs xorConstant n l i = i
-firstBitAs rotatesLeft n l i = (i + (n - l .amount)) % n
-firstBitAs rotatesRight n l i = (i + l .amount) % n
-firstBitAs addWords n l i = i
-firstBitAs addConstant n l i = i
-firstBitAs unknown n l i = i
+-- ---- the inputs of bit i: of the first operand, beside it, and the carry's
 
-abbrev pub firstBit : LineRun → ℕ → ℕ
-firstBit r i = firstBitAs (kindOf (r .line .kind)) (r .width) (r .line) i
+abbrev pub takenAt : LineRun → ℕ → Taken
+takenAt r i = gates (kindOf (r .line .kind)) .taken (r .width) (r .line .amount) i
 
--- the inputs of bit i, the clauses of bit i and those of all bits
+abbrev pub takenIn : LineRun → ℕ → Input
+takenIn r i = takenInput (takenAt r i) (wordIn r (r .line .first))
+
+abbrev pub othersIn : LineRun → ℕ → List Input
+othersIn r i = otherInputs (kindOf (r .line .kind)) (r .line) (wordIn r) i
+
+abbrev pub carriesIn : LineRun → ℕ → List Input
+carriesIn r i = carryInputs (gates (kindOf (r .line .kind)) .carries) (carryIn r) i
+
 abbrev pub inputsIn : LineRun → ℕ → List Input
 inputsIn r i = inputs (r .width) (r .word) (r .line) (wordIn r) (carryIn r) i
+
+-- ---- the clauses of the carry out of bit i, those of bit i and those of all bits
+
+abbrev pub clausesOfNext : LineRun → ℕ → List (List ℤ)
+clausesOfNext r i =
+    cond (ltb (i + 1) (r .width))
+    (nextClauses (r .width) (r .word) (r .line) (wordIn r) (carryIn r) (gates (kindOf (r .line .kind)) .carries) i) []
 
 abbrev pub clausesOfBit : LineRun → ℕ → List (List ℤ)
 clausesOfBit r i = bitClauses (r .width) (r .word) (r .line) (wordIn r) (carryIn r) i
 
 abbrev pub clausesOfRun : LineRun → List (List ℤ)
 clausesOfRun r = runClauses (r .width) (r .word) (r .line) (wordIn r) (carryIn r)
+
+-- ---- how they are written
+
+-- a literal that the machine can negate
+abbrev pub CanNegate : ℤ → Type 0
+CanNegate l = mag l < 2 ^ 31 - 1
+
+-- the literals in an array
+abbrev pub gathered : Inputs → List ℤ
+gathered g = take (g .count) (g .lits)
+
+-- it holds just these, at most so many, and each can be negated
+pub record Gathers (most : ℕ) (ls : List ℤ) (g : Inputs) : Type 0 where
+  pub count-most : g .count ≤ most
+  pub length-is : length (g .lits) ≡ 4
+  pub are : gathered g ≡ ls
+  pub small : Small ls
+
+-- the numbers of the gate that ties an output to them by a table
+abbrev pub tiedBy : Inputs → ℤ → ℕ → List ℤ
+tiedBy g output table = numbers (tableGate (gathered g ++ (output ∷ [])) table)
 
 -- a table has the values of f at every row
 abbrev pub IsTable : (List Bool → Bool) → List Input → ℕ → Type 0

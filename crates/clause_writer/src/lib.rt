@@ -1,5 +1,7 @@
 // The clauses of one run of one line, written into a lent buffer of numbers.
 mod bits;
+mod inputs;
+pub mod kinds;
 mod literals;
 mod tables;
 
@@ -27,7 +29,8 @@ pub struct LineRun {
 // Writes a run's clauses from a position on, bits upward. Returns the next position.
 pub fn put_run(out: &mut [i32], at: usize, run: LineRun) -> usize
     requires { ⌜ ProperRun run × (at + length (numbers (clausesOfRun run)) ≤ length (now out)) ⌝ }
-    ensures { λ r. ⌜ (r ≡ at + length (numbers (clausesOfRun run))) × (now (out .exit) ≡ overwrite at (numbers (clausesOfRun run)) (now (out .entry))) ⌝ }
+    ensures { λ r. ⌜ (r ≡ at + length (numbers (clausesOfRun run)))
+        × (now (out .exit) ≡ overwrite at (numbers (clausesOfRun run)) (now (out .entry))) ⌝ }
 {
     let n = run.width;
     let mut next = at;

@@ -195,7 +195,7 @@ bit-and x y i =
 
 -- ---- bits below a position
 
-bit-none : (i : ℕ) → bit 0 i ≡ false
+pub bit-none : (i : ℕ) → bit 0 i ≡ false
 bit-none i = value-inj (bit 0 i) false (value-bit 0 i ∙ ap (λ (z : ℕ). z % 2) (zero-div (2 ^ i)))
 
 -- x[i-k] is bit i of x shifted up by k places
