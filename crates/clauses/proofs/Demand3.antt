@@ -1,19 +1,17 @@
 -- Demand 3 for sheets: what the call for one line's list writes pairs off satisfying assignments and starting values that follow.
-use Prim.Native.Nat.{ℕ, _<_}
+use Prim.Native.Nat.{ℕ}
 use mathlib.Core.Path.{_≡_, refl, sym, subst, _∙_}
 use mathlib.Core.Bool.{Bool, true, false, true≢false}
 use mathlib.Core.List.{List}
 use lib.IntN.{ℤ}
-use Rattle.trail.specs.Trail.{Trail, lineCount}
+use Rattle.trail.specs.Trail.{Trail}
 use Rattle.trail.specs.Runs.{isStart, follows}
-use Rattle.trail.specs.WellFormed.{WellFormed}
 use Rattle.cnf.specs.Formulas.{variable, satisfies}
 use Rattle.clause_lists.specs.Lists.{joined}
 use Rattle.clause_lists.specs.Assignments.{spelled}
 use Rattle.clause_lists.specs.Pairing.{IsAssignment, SatisfiedExactly, MapsInverse, EquallyMany, NamesVariables, EndsInZero}
 use Rattle.clause_lists.proofs.Demand3.{every-trail-pairs}
 use Rattle.sheet.specs.Fields.{trailOf}
-use Rattle.sheet.specs.Answers.{IsAccepted}
 use Rattle.sheet.specs.declared.Mode.the-variants.{Read}
 use Rattle.sheet.proofs.WellFormed.{accepted-well-formed}
 use Rattle.report.proofs.Demand2.{sheet-reports-are-right}

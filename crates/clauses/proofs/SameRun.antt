@@ -1,30 +1,30 @@
 -- The run that the code holds has the clauses of the trail's run: its literals are the same.
 use Prim.Native.Nat.{ℕ, zero, suc, _+_, _-_, _*_, _≤_, _<_}
 use native.Mathlib.Omega.{arith}
-use mathlib.Core.Path.{_≡_, refl, sym, ap, ap₂, subst, _∙_}
-use mathlib.Core.Bool.{Bool, true, false, _&&_, cond}
+use mathlib.Core.Path.{_≡_, refl, sym, ap, ap₂, _∙_}
+use mathlib.Core.Bool.{Bool, true, false, cond}
 use mathlib.Core.List.{List, [], _∷_, _++_}
 use lib.Dec.{eqb, ltb}
 use lib.IntN.{ℤ, pos, negℤ}
 use Rattle.words.specs.Words.{bit}
-use Rattle.words.specs.Below.{concat}
 use Rattle.words.proofs.Below.{concat-cong}
 use Rattle.words.proofs.Bits.{bit-xor, xor-self}
 use Rattle.trail.specs.declared.Line.{Line}
-use Rattle.trail.specs.Kinds.{Kind, kindOf}
-use Rattle.trail.specs.Kinds.Kind.{xorWords, xorConstant, rotatesLeft, rotatesRight, addWords, addConstant, unknown}
-use Rattle.trail.specs.Trail.{Trail, inputCount, lineAt, differenceAt}
+use Rattle.trail.specs.Kinds.{kindOf, usesSecond, usesConstant}
+use Rattle.trail.specs.Trail.{Trail, lineAt, differenceAt}
 use Rattle.trail.proofs.Differences.{difference-line}
 use Rattle.cnf.specs.Gates.{Input, gate}
 use Rattle.cnf.specs.Gates.Input.{literal, known}
-use Rattle.clause_lists.specs.Kinds.{isAddition, carryInput, inputsAs, parity, twoOrMore}
+use Rattle.clause_lists.specs.Kinds.{Taken, Carries, gates, takenInput, carryInputs, parity}
+use Rattle.clause_lists.specs.Kinds.Taken.{bitAt, noBit}
+use Rattle.clause_lists.specs.Kinds.Carries.{none, made}
 use Rattle.clause_lists.specs.Variables.{Run, bitVariable, variablesBefore, carryVariable, bitLiteral, carryLiteral}
 use Rattle.clause_lists.specs.Variables.Run.{firstRun, secondRun}
-use Rattle.clause_lists.specs.Lists.{inputs, bitClauses, runClauses, clausesIn}
+use Rattle.clause_lists.specs.Lists.{inputs, nextClauses, bitClauses, runClauses, clausesIn}
 use Rattle.sheet.specs.declared.Header.{Header}
 use Rattle.sheet.specs.Fields.{trailOf}
 use Rattle.sheet.specs.Facts.{SheetRead}
-use Rattle.sheet.proofs.WellFormed.{read-width, read-inputs, read-limited, line-at-right}
+use Rattle.sheet.proofs.WellFormed.{line-at-right}
 use Rattle.clause_writer.specs.declared.LineRun.{LineRun}
 use Rattle.clause_writer.specs.Writing.{signedLiteral, differenceIn, wordIn, carryIn, clausesOfRun, ProperRun}
 use Rattle.clause_writer.proofs.RunLiterals.{made-signed, first-signed, second-signed}
@@ -40,21 +40,30 @@ pub record Agree (j : ℕ) (l : Line) (word other : ℕ → ℕ → ℤ) (carry 
   pub carries : (i : ℕ) → carry i ≡ another i
 
 module _ (n j : ℕ) (l : Line) (word other : ℕ → ℕ → ℤ) (carry another : ℕ → ℤ) (same : Agree j l word other carry another) where
-  carry-same : (i : ℕ) → carryInput carry i ≡ carryInput another i
-  carry-same zero = refl
-  carry-same (suc i) = ap literal (same .carries (suc i))
+  taken-same : (p : Taken) → takenInput p (word (l .first)) ≡ takenInput p (other (l .first))
+  taken-same (bitAt i) = ap literal (same .first i)
+  taken-same noBit = refl
 
-  inputs-same : (q : Kind) (i : ℕ) → inputsAs q n l word carry i ≡ inputsAs q n l other another i
-  inputs-same xorWords i = ap₂ (λ (x y : ℤ). literal x ∷ literal y ∷ []) (same .first i) (same .second i)
-  inputs-same xorConstant i = ap (λ (x : ℤ). literal x ∷ known (bit (l .constant) i) ∷ []) (same .first i)
-  inputs-same rotatesLeft i = ap (λ (x : ℤ). literal x ∷ []) (same .first _)
-  inputs-same rotatesRight i = ap (λ (x : ℤ). literal x ∷ []) (same .first _)
-  inputs-same addWords i =
-      ap₂ (λ (x : ℤ) (is : List Input). literal x ∷ is) (same .first i)
-      (ap₂ (λ (y : ℤ) (c : Input). literal y ∷ c ∷ []) (same .second i) (carry-same i))
-  inputs-same addConstant i =
-      ap₂ (λ (x : ℤ) (c : Input). literal x ∷ known (bit (l .constant) i) ∷ c ∷ []) (same .first i) (carry-same i)
-  inputs-same unknown i = refl
+  others-same : (second constant : Bool) (i : ℕ)
+      → cond second (literal (word (l .second) i) ∷ []) (cond constant (known (bit (l .constant) i) ∷ []) [])
+      ≡ cond second (literal (other (l .second) i) ∷ []) (cond constant (known (bit (l .constant) i) ∷ []) [])
+  others-same true constant i = ap (λ (x : ℤ). literal x ∷ []) (same .second i)
+  others-same false constant i = refl
+
+  carries-same : (cs : Carries) (i : ℕ) → carryInputs cs carry i ≡ carryInputs cs another i
+  carries-same none i = refl
+  carries-same (made next value) zero = refl
+  carries-same (made next value) (suc i) = ap (λ (x : ℤ). literal x ∷ []) (same .carries (suc i))
+
+  inputs-same : (i : ℕ) → inputs n j l word carry i ≡ inputs n j l other another i
+  inputs-same i =
+      ap₂ (λ (x : Input) (is : List Input). x ∷ is) (taken-same (gates (kindOf (l .kind)) .taken n (l .amount) i))
+      (ap₂ _++_ (others-same (usesSecond (kindOf (l .kind))) (usesConstant (kindOf (l .kind))) i)
+      (carries-same (gates (kindOf (l .kind)) .carries) i))
+
+  next-same : (cs : Carries) (i : ℕ) → nextClauses n j l word carry cs i ≡ nextClauses n j l other another cs i
+  next-same none i = refl
+  next-same (made next value) i = ap₂ (gate next) (inputs-same i) (same .carries (i + 1))
 
   pub run-same : runClauses n j l word carry ≡ runClauses n j l other another
   unfolding runClauses bitClauses
@@ -62,9 +71,8 @@ module _ (n j : ℕ) (l : Line) (word other : ℕ → ℕ → ℤ) (carry anothe
       concat-cong n (bitClauses n j l word carry) (bitClauses n j l other another)
       (λ i _.
       ap₂ _++_
-      (ap₂ (gate parity) (inputs-same (kindOf (l .kind)) i) (same .made i))
-      (ap (λ (cs : List (List ℤ)). cond (isAddition (kindOf (l .kind)) && ltb (i + 1) n) cs [])
-      (ap₂ (gate twoOrMore) (inputs-same (kindOf (l .kind)) i) (same .carries (i + 1)))))
+      (ap₂ (gate parity) (inputs-same i) (same .made i))
+      (ap (λ (cs : List (List ℤ)). cond (ltb (i + 1) n) cs []) (next-same (gates (kindOf (l .kind)) .carries) i)))
 
 -- ---- signs
 
@@ -88,18 +96,18 @@ module _ (s : List ℕ) (h : Header) (read : SheetRead s h) (k : ℕ) (less : k 
     unfolding clausesIn
     same-clauses run same =
         run-same (r .width) (r .word) (r .line) (wordIn r) (bitLiteral t run) (carryIn r) (carryLiteral t run k) same
-        ∙ ap (λ (n : ℕ). runClauses n (r .word) (r .line) (bitLiteral t run) (carryLiteral t run k)) (width ∙ sym (read-width s h read))
+        ∙ ap (λ (n : ℕ). runClauses n (r .word) (r .line) (bitLiteral t run) (carryLiteral t run k)) (width ∙ sym (read .width))
         ∙ ap₂ (λ (j : ℕ) (l : Line). runClauses (t .width) j l (bitLiteral t run) (carryLiteral t run k))
-        (word ∙ ap (λ (m : ℕ). m + k) (sym (read-inputs s h read))) line
+        (word ∙ ap (λ (m : ℕ). m + k) (sym (read .inputs))) line
 
   module _ (l : Line) (v : ℕ) (line : l ≡ lineAt t k) (before : v ≡ variablesBefore t k) where
     carries-most : v + (h .width - 1) ≤ 23568
     carries-most =
-        let limits = read-limited s h read in
+        let limits = read .limits in
         omega (arith, before-most s h read k, limits .width-most, limits .lines-most)
 
     word-most : h .inputs + k < 256
-    word-most = let limits = read-limited s h read in omega (arith, limits .inputs-most, limits .lines-most)
+    word-most = let limits = read .limits in omega (arith, limits .inputs-most, limits .lines-most)
 
     -- ---- the first run: no literal is negated
 
@@ -108,8 +116,8 @@ module _ (s : List ℕ) (h : Header) (read : SheetRead s h) (k : ℕ) (less : k 
 
     first-proper : ProperRun firstOf
     first-proper = record {
-      width-least = read-limited s h read .width-least;
-      width-most = read-limited s h read .width-most;
+      width-least = read .limits .width-least;
+      width-most = read .limits .width-most;
       word-most = word-most;
       carries-most = omega (arith, carries-most);
       line-right = line-at-right s h read k less line;
@@ -122,7 +130,7 @@ module _ (s : List ℕ) (h : Header) (read : SheetRead s h) (k : ℕ) (less : k 
         let variable : ℤ = pos (h .width * j + i + 1) in
         ap (λ (d : ℕ). cond (bit d i) (negℤ variable) variable) (unsigned (eqb j (h .inputs + k)) (eqb j (l .first)))
         ∙ ap (λ (b : Bool). cond b (negℤ variable) variable) (zero-bit i)
-        ∙ ap (λ (n : ℕ). pos (n * j + i + 1)) (sym (read-width s h read))
+        ∙ ap (λ (n : ℕ). pos (n * j + i + 1)) (sym (read .width))
 
     first-carry : (i : ℕ) → carryIn firstOf i ≡ carryLiteral t firstRun k i
     unfolding carryIn carryLiteral carryVariable
@@ -155,8 +163,8 @@ module _ (s : List ℕ) (h : Header) (read : SheetRead s h) (k : ℕ) (less : k 
 
       second-proper : ProperRun secondOf
       second-proper = record {
-        width-least = read-limited s h read .width-least;
-        width-most = read-limited s h read .width-most;
+        width-least = read .limits .width-least;
+        width-most = read .limits .width-most;
         word-most = word-most;
         carries-most = carries-most;
         line-right = line-at-right s h read k less line;
@@ -166,17 +174,17 @@ module _ (s : List ℕ) (h : Header) (read : SheetRead s h) (k : ℕ) (less : k 
       second-word : (j : ℕ) → differenceIn secondOf j ≡ differenceAt t j → (i : ℕ) → wordIn secondOf j i ≡ bitLiteral t secondRun j i
       unfolding wordIn signedLiteral bitLiteral bitVariable
       second-word j e i =
-          ap₂ (λ (n d : ℕ). cond (bit d i) (negℤ (pos (n * j + i + 1))) (pos (n * j + i + 1))) (sym (read-width s h read)) e
+          ap₂ (λ (n d : ℕ). cond (bit d i) (negℤ (pos (n * j + i + 1))) (pos (n * j + i + 1))) (sym (read .width)) e
 
       made-difference : l .difference ≡ differenceAt t (h .inputs + k)
       made-difference =
           ap (λ (z : Line). z .difference) line
           ∙ sym (difference-line t k)
-          ∙ ap (λ (m : ℕ). differenceAt t (m + k)) (read-inputs s h read)
+          ∙ ap (λ (m : ℕ). differenceAt t (m + k)) (read .inputs)
 
       second-carry : (i : ℕ) → carryIn secondOf i ≡ carryLiteral t secondRun k i
       unfolding carryIn carryLiteral carryVariable
-      second-carry i = ap₂ (λ (b n : ℕ). pos (b + (n - 1) + i)) before (sym (read-width s h read))
+      second-carry i = ap₂ (λ (b n : ℕ). pos (b + (n - 1) + i)) before (sym (read .width))
 
       pub second-run-is : ProperRun secondOf × (clausesOfRun secondOf ≡ clausesIn t secondRun k)
       second-run-is = (

@@ -1,5 +1,5 @@
 -- The counts of an accepted sheet, line by line, and their limits.
-use Prim.Native.Nat.{ℕ, suc, _+_, _-_, _*_, _<_, _≤_}
+use Prim.Native.Nat.{ℕ, _+_, _-_, _*_, _<_, _≤_}
 use native.Mathlib.Decide.{le-ind}
 use native.Mathlib.Nat.{mul-le-mul}
 use native.Mathlib.Numerals.{add-one}
@@ -12,18 +12,18 @@ use Rattle.words.specs.Words.{value}
 use Rattle.words.specs.Below.{count, total}
 use Rattle.words.proofs.Below.{count-le}
 use Rattle.trail.specs.declared.Line.{Line}
-use Rattle.trail.specs.Kinds.{kindOf}
-use Rattle.trail.specs.Trail.{Trail, inputCount, lineCount, lineAt}
+use Rattle.trail.specs.Trail.{lineCount, lineAt}
 use Rattle.clause_lists.specs.Variables.{adds, variablesBefore, variables}
-use Rattle.clause_lists.specs.Lists.{lineClauses, clauseCount}
-use Rattle.clause_lists.specs.Sizes.{clausesAs, numbersAs}
-use Rattle.clause_lists.proofs.Lengths.{line-clauses-length}
+use Rattle.clause_lists.specs.Lists.{lineClauses, lineList, clauseCount}
+use Rattle.clause_lists.specs.Sizes.{gateCounts, sizeOf, clausesOfGate, numbersOfGate}
+use Rattle.clause_lists.specs.Limits.{mostClauses}
+use Rattle.clause_lists.proofs.Lengths.{line-clauses-length, line-list-length}
 use Rattle.clause_lists.proofs.Limits.{clauses-count-most}
 use Rattle.sheet.specs.declared.Header.{Header}
 use Rattle.sheet.specs.declared.Mode.the-variants.{Read}
 use Rattle.sheet.specs.Fields.{trailOf}
 use Rattle.sheet.specs.Facts.{SheetRead}
-use Rattle.sheet.proofs.WellFormed.{accepted-sized, read-width, read-inputs, read-lines, read-limited, read-well-formed}
+use Rattle.sheet.proofs.WellFormed.{accepted-sized}
 use Rattle.clauses.specs.declared.Counts.{Counts}
 use Rattle.clauses.specs.Answers.{countsOf}
 
@@ -58,18 +58,18 @@ module _ (s : List ℕ) (h : Header) (read : SheetRead s h) where
       → h .width * (h .inputs + h .lines) + 2 * (h .width - 1) * found ≡ variablesBefore (trailOf s) k
   unfolding variablesBefore
   variables-are k found e =
-      let width = sym (read-width s h read) in
-      ap₂ _+_ (ap₂ _*_ width (ap₂ _+_ (sym (read-inputs s h read)) (sym (read-lines s h read)))) (ap₂ (λ (n c : ℕ). 2 * (n - 1) * c) width e)
+      let width = sym (read .width) in
+      ap₂ _+_ (ap₂ _*_ width (ap₂ _+_ (sym (read .inputs)) (sym (read .lines)))) (ap₂ (λ (n c : ℕ). 2 * (n - 1) * c) width e)
 
   pub word-variables-most : h .width * (h .inputs + h .lines) ≤ 8192
   word-variables-most =
-      let limits = read-limited s h read in
+      let limits = read .limits in
       let both : h .inputs + h .lines ≤ 256 = omega (arith, limits .inputs-most, limits .lines-most) in
       omega (arith, mul-le-mul (limits .width-most) both)
 
   pub carry-variables-most : (k found : ℕ) → found ≡ count k (adds (trailOf s)) → 2 * (h .width - 1) * found ≤ 62 * k
   carry-variables-most k found e =
-      let narrow : 2 * (h .width - 1) ≤ 62 = omega (arith, read-limited s h read .width-most) in
+      let narrow : 2 * (h .width - 1) ≤ 62 = omega (arith, read .limits .width-most) in
       let few : found ≤ k = omega (arith, count-le k (adds (trailOf s))) in
       mul-le-mul narrow few
 
@@ -78,33 +78,37 @@ module _ (s : List ℕ) (h : Header) (read : SheetRead s h) where
       rw (← variables-are k (count k (adds (trailOf s))) refl)
       (omega (arith, word-variables-most, carry-variables-most k (count k (adds (trailOf s))) refl))
 
-  -- a line's clauses, as the code measures them
-  pub clauses-are : (k : ℕ) {l : Line} {r : ℕ} → k < h .lines → l ≡ lineAt (trailOf s) k → r ≡ clausesAs (kindOf (l .kind)) (h .width)
-      → r ≡ length (lineClauses (trailOf s) k)
-  clauses-are k {l} {r} less e d =
-      d
-      ∙ ap (λ (z : Line). clausesAs (kindOf (z .kind)) (h .width)) e
-      ∙ ap (clausesAs (kindOf (lineAt (trailOf s) k .kind))) (sym (read-width s h read))
-      ∙ sym (line-clauses-length (read-well-formed s h read) k (omega (arith, read-lines s h read)))
+  -- the size of a line's list, as the code measures it
+  pub size-is : (ofGate : ℕ → ℕ) (k : ℕ) {l : Line} {r : ℕ} → l ≡ lineAt (trailOf s) k → r ≡ sizeOf ofGate (gateCounts (h .width) l)
+      → r ≡ sizeOf ofGate (gateCounts (trailOf s .width) (lineAt (trailOf s) k))
+  size-is ofGate k e d = d ∙ ap₂ (λ (n : ℕ) (z : Line). sizeOf ofGate (gateCounts n z)) (sym (read .width)) e
 
-  pub clauses-upto : (k : ℕ) → k ≤ h .lines → total k (λ i. length (lineClauses (trailOf s) i)) ≤ 246016
+  pub clauses-are : (k : ℕ) {l : Line} {r : ℕ} → k < h .lines → l ≡ lineAt (trailOf s) k
+      → r ≡ sizeOf clausesOfGate (gateCounts (h .width) l) → r ≡ length (lineClauses (trailOf s) k)
+  clauses-are k less e d = size-is clausesOfGate k e d ∙ sym (line-clauses-length (read .well-formed) k (omega arith))
+
+  pub numbers-are : (k : ℕ) {l : Line} {r : ℕ} → k < h .lines → l ≡ lineAt (trailOf s) k
+      → r ≡ sizeOf numbersOfGate (gateCounts (h .width) l) → r ≡ length (lineList (trailOf s) k)
+  numbers-are k less e d = size-is numbersOfGate k e d ∙ sym (line-list-length (read .well-formed) k (omega arith))
+
+  pub clauses-upto : (k : ℕ) → k ≤ h .lines → total k (λ i. length (lineClauses (trailOf s) i)) ≤ mostClauses
   unfolding clauseCount
   clauses-upto k l =
       omega (
         arith,
-        total-upto (λ i. length (lineClauses (trailOf s) i)) k (lineCount (trailOf s)) (omega (arith, read-lines s h read)),
-        clauses-count-most (read-well-formed s h read) (accepted-sized Read s (read .accepted)),
+        total-upto (λ i. length (lineClauses (trailOf s) i)) k (lineCount (trailOf s)) (omega (arith, read .lines)),
+        clauses-count-most (read .well-formed) (accepted-sized Read s (read .accepted)),
       )
 
   pub clauses-all : (k : ℕ) {sum : ℕ} → k ≡ h .lines → sum ≡ total k (λ i. length (lineClauses (trailOf s) i))
       → sum ≡ clauseCount (trailOf s)
   unfolding clauseCount
-  clauses-all k e d = d ∙ ap (λ (n : ℕ). total n (λ i. length (lineClauses (trailOf s) i))) (e ∙ sym (read-lines s h read))
+  clauses-all k e d = d ∙ ap (λ (n : ℕ). total n (λ i. length (lineClauses (trailOf s) i))) (e ∙ sym (read .lines))
 
   -- both counts
   pub counts-are : {v c : ℕ} → v ≡ variablesBefore (trailOf s) (h .lines) → c ≡ clauseCount (trailOf s)
       → _≡_ {A = Counts} (record { variables = v; clauses = c }) (countsOf (trailOf s))
   unfolding variables
   counts-are e d =
-      let all = e ∙ ap (variablesBefore (trailOf s)) (sym (read-lines s h read)) in
+      let all = e ∙ ap (variablesBefore (trailOf s)) (sym (read .lines)) in
       λ i. record { variables = all i; clauses = d i }

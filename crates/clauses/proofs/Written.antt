@@ -1,21 +1,19 @@
 -- What the call for one line's list writes, lent a buffer that is long enough, is the line's list.
-use Prim.Native.Nat.{ℕ, _+_, _≤_, _<_}
+use Prim.Native.Nat.{ℕ, _≤_, _<_}
 use native.Mathlib.Omega.{arith}
 use native.Mathlib.Nat.{zero-add}
-use mathlib.Core.Path.{_≡_, refl, sym, ap, ap₂, _∙_}
+use mathlib.Core.Path.{_≡_, sym, ap, ap₂, _∙_}
 use mathlib.Core.Bool.{Bool, true, cond}
-use mathlib.Core.List.{List, [], _++_}
+use mathlib.Core.List.{List}
 use borrow.Author.Tests.{lt-ltb, le-leb}
 use lib.ListN.{length, take}
 use lib.IntN.{ℤ}
-use Rattle.words.specs.Below.{concat}
 use Rattle.words.proofs.Below.{concat-cong}
 use Rattle.buffers.specs.Overwrite.{overwrite}
 use Rattle.buffers.proofs.Overwrite.{take-overwrite}
 use Rattle.trail.specs.Trail.{lineCount}
 use Rattle.clause_lists.specs.Lists.{lineList, joined}
-use Rattle.sheet.specs.Asking.{allYes, verdict}
-use Rattle.sheet.specs.Asking.Verdict.{accepted}
+use Rattle.sheet.specs.Asking.{allYes}
 use Rattle.sheet.specs.Fields.{headerOf, trailOf}
 use Rattle.sheet.specs.Questions.{questions, lineNumberQuestions, roomQuestions}
 use Rattle.sheet.specs.Answers.{IsAccepted}

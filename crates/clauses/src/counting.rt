@@ -2,27 +2,27 @@
 ghost use mathlib.Core.Path.{_≡_};
 ghost use Prim.Native.Nat.{_≤_};
 ghost use Rattle.words.specs.Below.{count};
-ghost use Rattle.trail.specs.Trail.{lineCount};
 ghost use Rattle.clause_lists.specs.Variables.{adds, variablesBefore};
 ghost use Rattle.clause_lists.specs.Lists.{clauseCount};
 ghost use Rattle.sheet.specs.Fields.{trailOf};
 ghost use Rattle.sheet.specs.Facts.{SheetRead};
-use crate::sizes::clauses_in_list;
+use crate::sizes::list_size;
+use clause_writer::kinds::has_carries;
 use sheet::Header;
 use sheet_fields::lines::line_at;
 
-// The variables of the words and of the carries of the addition lines before line k.
+// The variables of the words and of the carries of the lines before line k.
 pub(crate) fn variables_before(sheet: &[u8], header: Header, k: usize) -> u32
     requires { ⌜ SheetRead (now sheet) header × (k ≤ header .lines) ⌝ }
     ensures { λ r. ⌜ r ≡ variablesBefore (trailOf (now (sheet .entry))) k ⌝ }
 {
     let n = header.width;
     let words = (header.inputs + header.lines) as u32;
-    n * words + 2 * (n - 1) * additions_before(sheet, header, k)
+    n * words + 2 * (n - 1) * carried_before(sheet, header, k)
 }
 
-// How many of the lines before line k are additions.
-fn additions_before(sheet: &[u8], header: Header, k: usize) -> u32
+// How many of the lines before line k have carries.
+fn carried_before(sheet: &[u8], header: Header, k: usize) -> u32
     requires { ⌜ SheetRead (now sheet) header × (k ≤ header .lines) ⌝ }
     ensures { λ r. ⌜ r ≡ count k (adds (trailOf (now (sheet .entry)))) ⌝ }
 {
@@ -30,11 +30,8 @@ fn additions_before(sheet: &[u8], header: Header, k: usize) -> u32
     let mut i = 0;
     while i < k {
         let line = line_at(sheet, header, i);
-        match line.kind {
-            5..=6 => {
-                found += 1;
-            }
-            _ => {}
+        if has_carries(line.kind) {
+            found += 1;
         }
         i += 1;
     }
@@ -51,7 +48,8 @@ pub(crate) fn clauses_of_lines(sheet: &[u8], header: Header) -> u32
     let mut k = 0;
     while k < lines {
         let line = line_at(sheet, header, k);
-        sum += clauses_in_list(line.kind, header.width);
+        let size = list_size(line, header.width);
+        sum += size.clauses;
         k += 1;
     }
     sum

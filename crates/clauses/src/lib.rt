@@ -12,7 +12,7 @@ ghost use Rattle.clauses.specs.Answers.{countsMeans, countsOf, listMeans
 use crate::counting::clauses_of_lines;
 use crate::counting::variables_before;
 use crate::lines::put_line;
-use crate::sizes::numbers_in_list;
+use crate::sizes::list_size;
 use reading::read;
 use sheet::Reading;
 use sheet::Refusal;
@@ -66,7 +66,8 @@ pub fn line_list(sheet: &[u8], k: usize, out: &mut [i32]) -> ListAnswer
         });
     }
     let line = line_at(sheet, header, k);
-    let need = numbers_in_list(line.kind, header.width);
+    let size = list_size(line, header.width);
+    let need = size.numbers;
     if out.len() < need {
         return ListAnswer::Refused(Refusal {
             number: 18,

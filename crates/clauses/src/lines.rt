@@ -3,7 +3,6 @@ ghost use mathlib.Core.Path.{_≡_};
 ghost use Prim.Native.Nat.{_+_, _<_, _≤_};
 ghost use lib.ListN.{length};
 ghost use Rattle.buffers.specs.Overwrite.{overwrite};
-ghost use Rattle.cnf.specs.Formulas.{numbers};
 ghost use Rattle.clause_lists.specs.Lists.{clausesIn, lineList};
 ghost use Rattle.clause_lists.specs.Variables.{variablesBefore};
 ghost use Rattle.clause_lists.specs.Variables.Run.{firstRun, secondRun};

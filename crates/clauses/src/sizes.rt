@@ -1,34 +1,43 @@
-// How long a line's list is, by its kind, before it is written.
+// How long a line's list is, before it is written.
 ghost use mathlib.Core.Path.{_≡_};
-ghost use Prim.Native.Nat.{_≤_};
-ghost use Rattle.trail.specs.Kinds.{kindOf};
-ghost use Rattle.clause_lists.specs.Sizes.{clausesAs, numbersAs};
+ghost use Prim.Native.Nat.{_+_, _*_, _≤_};
+ghost use Rattle.clause_lists.specs.Sizes.{gateCounts, sizeOf, clausesOfGate, numbersOfGate};
+use clause_writer::kinds::has_carries;
+use clause_writer::kinds::uses_second;
+use trail::Line;
 
-// The clauses of a line. A gate of k literals beside its output has 2^k.
-pub(crate) fn clauses_in_list(kind: u32, n: u32) -> u32
-    requires { ⌜ (2 ≤ n) × (n ≤ 32) ⌝ }
-    ensures { λ r. ⌜ r ≡ clausesAs (kindOf kind) n ⌝ }
-{
-    match kind {
-        1 => 8 * n,
-        2..=4 => 4 * n,
-        5 => 32 * n - 32,
-        6 => 16 * n - 16,
-        _ => 0,
-    }
+// The clauses of a list, and its numbers: literals and zeros.
+pub(crate) struct ListSize {
+    pub clauses: u32,
+    pub numbers: usize,
 }
 
-// The numbers of a line's list: literals and zeros.
-pub(crate) fn numbers_in_list(kind: u32, n: u32) -> usize
+// The size of a line's list. Without carries both runs have a gate for each bit; with carries two gates in bit 0, which no carry
+// enters, two in each bit above, and one in the last.
+pub(crate) fn list_size(line: Line, n: u32) -> ListSize
     requires { ⌜ (2 ≤ n) × (n ≤ 32) ⌝ }
-    ensures { λ r. ⌜ r ≡ numbersAs (kindOf kind) n ⌝ }
+    ensures { λ r. ⌜ (r .clauses ≡ sizeOf clausesOfGate (gateCounts n line)) × (r .numbers ≡ sizeOf numbersOfGate (gateCounts n line)) ⌝ }
 {
-    let bits = n as usize;
-    match kind {
-        1 => 32 * bits,
-        2..=4 => 12 * bits,
-        5 => 160 * bits - 176,
-        6 => 64 * bits - 72,
-        _ => 0,
+    let kind = line.kind;
+    if uses_second(kind) {
+        if has_carries(kind) {
+            return of_gates(0, 4, 4 * n - 6);
+        }
+        return of_gates(0, 2 * n, 0);
+    }
+    if has_carries(kind) {
+        return of_gates(4, 4 * n - 6, 0);
+    }
+    of_gates(2 * n, 0, 0)
+}
+
+// The size of so many gates with one, two and three literals among their inputs.
+fn of_gates(one: u32, two: u32, three: u32) -> ListSize
+    requires { ⌜ (one ≤ 128) × (two ≤ 128) × (three ≤ 128) ⌝ }
+    ensures { λ r. ⌜ (r .clauses ≡ 2 * one + 4 * two + 8 * three) × (r .numbers ≡ 6 * one + 16 * two + 40 * three) ⌝ }
+{
+    ListSize {
+        clauses: 2 * one + 4 * two + 8 * three,
+        numbers: (6 * one + 16 * two + 40 * three) as usize,
     }
 }

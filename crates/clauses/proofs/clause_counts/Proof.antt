@@ -1,11 +1,8 @@
 use native.Mathlib.Omega.{arith}
-use mathlib.Core.Path.{_≡_, sym, ap, ap₂, _∙_}
+use mathlib.Core.Path.{sym, ap, _∙_}
 use Rattle.sheet.specs.Asking.Verdict.{accepted}
-use Rattle.sheet.specs.Fields.{trailOf}
 use Rattle.sheet.proofs.Asking.{verdict-yes}
-use Rattle.sheet.proofs.Calling.{refused-alone, accepted-by-reading}
-use Rattle.clauses.specs.declared.Counts.{Counts}
-use Rattle.clauses.specs.Answers.{countsOf}
+use Rattle.sheet.proofs.Calling.{refused-alone, was-read}
 use Rattle.clauses.proofs.SheetCounts.{counts-are}
 use borrow.Author.Needs.{needs}
 use Rattle.clauses.proofs.clause_counts.Statement.{statement}
@@ -28,18 +25,18 @@ returns c = rw (c .refusal-of .ensures) (refused-alone _ _ (c .before .before .b
 
 variables-before-requires : tie.Need-variables-before-requires
 variables-before-requires c κs =
-    let yes = accepted-by-reading _ _ (c .before .before .before .read .ensures) _ (c .before .reading .given .1) in
-    (record { accepted = yes .0; parts = yes .1 }, omega arith)
+    let read = was-read _ _ (c .before .before .before .read .ensures) _ (c .before .reading .given .1) in
+    (read, omega arith)
 
 clauses-of-lines-requires : tie.Need-clauses-of-lines-requires
 clauses-of-lines-requires c κs =
-    let yes = accepted-by-reading _ _ (c .before .before .before .before .read .ensures) _ (c .before .before .reading .given .1) in
-    record { accepted = yes .0; parts = yes .1 }
+    let read = was-read _ _ (c .before .before .before .before .read .ensures) _ (c .before .before .reading .given .1) in
+    read
 
 returns-2 : tie.Need-returns-2
 returns-2 c =
-    let yes = accepted-by-reading _ _ (c .before .before .before .before .before .read .ensures) _ (c .before .before .before .reading .given .1) in
-    ap accepted (counts-are _ _ (record { accepted = yes .0; parts = yes .1 }) (c .before .variables-before .ensures) (c .clauses-of-lines .ensures)) ∙ sym (verdict-yes _ _ (yes .0))
+    let read = was-read _ _ (c .before .before .before .before .before .read .ensures) _ (c .before .before .before .reading .given .1) in
+    ap accepted (counts-are _ _ (read) (c .before .variables-before .ensures) (c .clauses-of-lines .ensures)) ∙ sym (verdict-yes _ _ (read .accepted))
 
 pub clause-counts-spec : {M : Type 1} → statement M
 clause-counts-spec =

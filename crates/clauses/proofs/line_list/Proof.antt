@@ -1,19 +1,16 @@
 use Prim.Native.Nat.{ℕ, _≤_, _<_}
-use native.Mathlib.Omega.{arith}
 use mathlib.Core.Path.{_≡_, sym, ap, _∙_, subst}
 use lib.ListN.{length}
 use borrow.Author.Needs.{needs}
 use Rattle.clause_lists.specs.Lists.{lineList}
 use Rattle.sheet.specs.declared.Header.{Header}
-use Rattle.sheet.specs.declared.Mode.the-variants.{Read}
 use Rattle.sheet.specs.Asking.{verdict}
 use Rattle.sheet.specs.Asking.Verdict.{accepted, refused}
 use Rattle.sheet.specs.Fields.{headerOf, trailOf}
-use Rattle.sheet.specs.Facts.{SheetRead}
-use Rattle.sheet.proofs.Calling.{refused-by-reading, accepted-by-reading, own-questions, no-line-first, some-line-first, no-room, some-room}
-use Rattle.sheet.proofs.WellFormed.{read-limited}
+use Rattle.sheet.proofs.Calling.{refused-by-reading, was-read, own-questions, no-line-first, some-line-first, no-room, some-room}
 use Rattle.clauses.specs.Answers.{listAsks}
-use Rattle.clauses.proofs.ListAnswers.{list-refused, list-given, need-is}
+use Rattle.clauses.proofs.ListAnswers.{list-refused, list-given}
+use Rattle.clauses.proofs.SheetCounts.{numbers-are}
 use Rattle.clauses.proofs.line_list.Statement.{statement}
 use Rattle.clauses.proofs.line_list.Tie as tie
 
@@ -44,21 +41,19 @@ returns-2 c =
     let s = start .args .sheet .now in
     let k = start .args .k in
     let out = start .args .out .now in
-    let yes = accepted-by-reading _ _ (c .before .before .before .before .before .read .ensures) _ (c .before .before .before .reading .given .1) in
-    let past : headerOf s .lines ≤ k = subst (λ (h : Header). h .lines ≤ k) (sym (yes .1)) (c .if1 .taken) in
-    list-refused s k out (own-questions s _ _ (yes .0) (no-line-first (length (lineList (trailOf s) k)) (headerOf s) k _ past))
+    let read = was-read _ _ (c .before .before .before .before .before .read .ensures) _ (c .before .before .before .reading .given .1) in
+    let past : headerOf s .lines ≤ k = subst (λ (h : Header). h .lines ≤ k) (sym (read .parts)) (c .if1 .taken) in
+    list-refused s k out (own-questions s _ _ (read .accepted) (no-line-first (length (lineList (trailOf s) k)) (headerOf s) k _ past))
 
 line-at-requires : tie.Need-line-at-requires
 line-at-requires c κs =
-    let yes = accepted-by-reading _ _ (c .before .before .before .before .before .read .ensures) _ (c .before .before .before .reading .given .1) in
-    (record { accepted = yes .0; parts = yes .1 }, c .if1 .left)
+    let read = was-read _ _ (c .before .before .before .before .before .read .ensures) _ (c .before .before .before .reading .given .1) in
+    (read, c .if1 .left)
 
-numbers-in-list-requires : tie.Need-numbers-in-list-requires
-numbers-in-list-requires c κs =
-    let start = c .before .before .before .before .before .before .before .before in
-    let yes = accepted-by-reading _ _ (c .before .before .before .before .before .before .read .ensures) _ (c .before .before .before .before .reading .given .1) in
-    let limits = read-limited (start .args .sheet .now) _ (record { accepted = yes .0; parts = yes .1 }) in
-    (limits .width-least, limits .width-most)
+list-size-requires : tie.Need-list-size-requires
+list-size-requires c κs =
+    let read = was-read _ _ (c .before .before .before .before .before .before .read .ensures) _ (c .before .before .before .before .reading .given .1) in
+    (read .limits .width-least, read .limits .width-most)
 
 returns-3 : tie.Need-returns-3
 returns-3 c =
@@ -66,13 +61,12 @@ returns-3 c =
     let s = start .args .sheet .now in
     let k = start .args .k in
     let out = start .args .out .now in
-    let yes = accepted-by-reading _ _ (c .before .before .before .before .before .before .before .before .read .ensures) _ (c .before .before .before .before .before .before .reading .given .1) in
-    let read : SheetRead s _ = record { accepted = yes .0; parts = yes .1 } in
-    let need = need-is s _ read k (c .before .before .before .if1 .left) (c .before .before .line-at .ensures) (c .before .numbers-in-list .ensures) in
-    let below : k < headerOf s .lines = subst (λ (h : Header). k < h .lines) (sym (yes .1)) (c .before .before .before .if1 .left) in
+    let read = was-read _ _ (c .before .before .before .before .before .before .before .before .read .ensures) _ (c .before .before .before .before .before .before .reading .given .1) in
+    let need = numbers-are s _ read k (c .before .before .before .if1 .left) (c .before .before .line-at .ensures) (c .before .list-size .ensures .1) in
+    let below : k < headerOf s .lines = subst (λ (h : Header). k < h .lines) (sym (read .parts)) (c .before .before .before .if1 .left) in
     let short : length out < length (lineList (trailOf s) k) = subst (λ (n : ℕ). length out < n) need (c .if2 .taken) in
     list-refused s k out
-    (own-questions s _ _ (yes .0)
+    (own-questions s _ _ (read .accepted)
     (some-line-first (length (lineList (trailOf s) k)) (headerOf s) k _ below (no-room (length (lineList (trailOf s) k)) (length (lineList (trailOf s) k)) (length out) short)))
 
 put-line-requires : tie.Need-put-line-requires
@@ -81,9 +75,8 @@ put-line-requires c κs =
     let s = start .args .sheet .now in
     let k = start .args .k in
     let out = start .args .out .now in
-    let yes = accepted-by-reading _ _ (c .before .before .before .before .before .before .before .before .before .read .ensures) _ (c .before .before .before .before .before .before .before .reading .given .1) in
-    let read : SheetRead s _ = record { accepted = yes .0; parts = yes .1 } in
-    let need = need-is s _ read k (c .before .before .before .before .if1 .left) (c .before .before .before .line-at .ensures) (c .before .before .numbers-in-list .ensures) in
+    let read = was-read _ _ (c .before .before .before .before .before .before .before .before .before .read .ensures) _ (c .before .before .before .before .before .before .before .reading .given .1) in
+    let need = numbers-are s _ read k (c .before .before .before .before .if1 .left) (c .before .before .before .line-at .ensures) (c .before .before .list-size .ensures .1) in
     (read, c .before .before .before .before .if1 .left, subst (λ (n : ℕ). n ≤ length out) need (c .before .if2 .left))
 
 same-length : tie.Need-same-length
@@ -95,13 +88,12 @@ returns-4 c =
     let s = start .args .sheet .now in
     let k = start .args .k in
     let out = start .args .out .now in
-    let yes = accepted-by-reading _ _ (c .before .before .before .before .before .before .before .before .before .before .before .read .ensures) _ (c .before .before .before .before .before .before .before .before .before .reading .given .1) in
-    let read : SheetRead s _ = record { accepted = yes .0; parts = yes .1 } in
-    let left = c .before .before .before .before .before .before .if1 .left in
-    let need = need-is s _ read k left (c .before .before .before .before .before .line-at .ensures) (c .before .before .before .before .numbers-in-list .ensures) in
-    let below : k < headerOf s .lines = subst (λ (h : Header). k < h .lines) (sym (yes .1)) left in
+    let read = was-read _ _ (c .before .before .before .before .before .before .before .before .before .before .before .read .ensures) _ (c .before .before .before .before .before .before .before .before .before .reading .given .1) in
+        let left = c .before .before .before .before .before .before .if1 .left in
+    let need = numbers-are s _ read k left (c .before .before .before .before .before .line-at .ensures) (c .before .before .before .before .list-size .ensures .1) in
+    let below : k < headerOf s .lines = subst (λ (h : Header). k < h .lines) (sym (read .parts)) left in
     let long : length (lineList (trailOf s) k) ≤ length out = subst (λ (n : ℕ). n ≤ length out) need (c .before .before .before .if2 .left) in
-    let answer = own-questions s _ _ (yes .0)
+    let answer = own-questions s _ _ (read .accepted)
     (some-line-first (length (lineList (trailOf s) k)) (headerOf s) k _ below (some-room (length (lineList (trailOf s) k)) (length (lineList (trailOf s) k)) (length out) long)) in
     list-given s k out (ap accepted need ∙ answer) (c .before .put-line .ensures)
 
@@ -116,7 +108,7 @@ line-list-spec =
     returns
     returns-2
     line-at-requires
-    numbers-in-list-requires
+    list-size-requires
     returns-3
     put-line-requires
     same-length

@@ -1,12 +1,11 @@
 use Prim.Native.Nat.{_+_, _-_, _≤_}
 use native.Mathlib.Omega.{arith}
-use mathlib.Core.Path.{_≡_, sym, ap, _∙_}
+use mathlib.Core.Path.{_≡_}
 use lib.ListN.{length}
 use borrow.Author.Needs.{needs}
 use Rattle.words.specs.Below.{total}
 use Rattle.clause_lists.specs.Lists.{lineClauses}
 use Rattle.sheet.specs.Fields.{trailOf}
-use Rattle.sheet.proofs.WellFormed.{read-limited}
 use Rattle.clauses.proofs.SheetCounts.{total-start, total-more, clauses-are, clauses-upto, clauses-all}
 use Rattle.clauses.proofs.counting.clauses_of_lines.Statement.{statement}
 use Rattle.clauses.proofs.counting.clauses_of_lines.Tie as tie
@@ -23,17 +22,15 @@ loop-holds c = (search needs, total-start _)
 line-at-requires : tie.Need-line-at-requires Inv-loop μ-loop
 line-at-requires c κs = (c .before .before .before .pre, omega arith)
 
-clauses-in-list-requires : tie.Need-clauses-in-list-requires Inv-loop μ-loop
-clauses-in-list-requires c κs =
-    let limits = read-limited _ _ (c .before .before .before .before .pre) in
-    (limits .width-least, limits .width-most)
+list-size-requires : tie.Need-list-size-requires Inv-loop μ-loop
+list-size-requires c κs = search needs
 
 add-sum : tie.Need-add-sum Inv-loop μ-loop
 add-sum c =
-    let h = c .before .before .before .loop in
-    let start = c .before .before .before .before .before in
+    let h = c .before .before .before .before .loop in
+    let start = c .before .before .before .before .before .before in
     let s = start .args .sheet .now in
-    let e = clauses-are s (start .args .header) (start .pre) (h .k) (omega arith) (c .before .line-at .ensures) (c .clauses-in-list .ensures) in
+    let e = clauses-are s (start .args .header) (start .pre) (h .k) (omega arith) (c .before .before .line-at .ensures) (c .before .list-size .ensures .0) in
     omega (arith, total-more (λ i. length (lineClauses (trailOf s) i)) (h .k) (h .inv .1) e, clauses-upto s (start .args .header) (start .pre) (h .k + 1) (omega arith))
 
 add-k : tie.Need-add-k Inv-loop μ-loop
@@ -44,10 +41,10 @@ loop-less c = search needs
 
 loop-again : tie.Need-loop-again Inv-loop μ-loop
 loop-again c =
-    let h = c .before .before .before .loop in
-    let start = c .before .before .before .before .before in
+    let h = c .before .before .before .before .loop in
+    let start = c .before .before .before .before .before .before in
     let s = start .args .sheet .now in
-    let e = clauses-are s (start .args .header) (start .pre) (h .k) (omega arith) (c .before .line-at .ensures) (c .clauses-in-list .ensures) in
+    let e = clauses-are s (start .args .header) (start .pre) (h .k) (omega arith) (c .before .before .line-at .ensures) (c .before .list-size .ensures .0) in
     (search needs, total-more (λ i. length (lineClauses (trailOf s) i)) (h .k) (h .inv .1) e)
 
 returns : tie.Need-returns Inv-loop μ-loop
@@ -63,7 +60,7 @@ clauses-of-lines-spec =
     μ-loop
     loop-holds
     line-at-requires
-    clauses-in-list-requires
+    list-size-requires
     add-sum
     add-k
     loop-less

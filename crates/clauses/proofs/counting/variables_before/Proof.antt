@@ -1,81 +1,46 @@
-use Prim.Native.Nat.{_≤_}
+-- The words' variables, and two runs' carries for each line with carries before this one; the limits keep them small.
 use native.Mathlib.Omega.{arith}
-use Rattle.sheet.proofs.WellFormed.{read-limited}
 use Rattle.clauses.proofs.SheetCounts.{variables-are, word-variables-most, carry-variables-most}
 use borrow.Author.Needs.{needs}
 use Rattle.clauses.proofs.counting.variables_before.Statement.{statement}
 use Rattle.clauses.proofs.counting.variables_before.Tie as tie
 
 add-words : tie.Need-add-words
-add-words c =
-    let start = c .before .before in
-    let s = start .args .sheet .now in
-    let h = start .args .header in
-    let read = start .pre .0 in
-    let limits = read-limited s h read in
-    omega (arith, limits .inputs-most, limits .lines-most)
+add-words c = omega arith
 
 cast-words : tie.Need-cast-words
-cast-words c =
-    let start = c .before .before in
-    let s = start .args .sheet .now in
-    let h = start .args .header in
-    let read = start .pre .0 in
-    let limits = read-limited s h read in
-    omega (arith, limits .inputs-most, limits .lines-most)
+cast-words c = omega arith
 
 mul-result : tie.Need-mul-result
-mul-result c =
-    let start = c .before .before in
-    let s = start .args .sheet .now in
-    let h = start .args .header in
-    let read = start .pre .0 in
-    let limits = read-limited s h read in
-    omega (arith, word-variables-most s h read)
+mul-result c = omega (arith, word-variables-most _ _ (c .before .before .pre .0))
 
 sub-result : tie.Need-sub-result
-sub-result c =
-    let start = c .before .before in
-    let s = start .args .sheet .now in
-    let h = start .args .header in
-    let read = start .pre .0 in
-    let limits = read-limited s h read in
-    omega (arith, limits .width-least)
+sub-result c = omega arith
 
 mul-result-2 : tie.Need-mul-result-2
-mul-result-2 c =
-    let start = c .before .before in
-    let s = start .args .sheet .now in
-    let h = start .args .header in
-    let read = start .pre .0 in
-    let limits = read-limited s h read in
-    omega (arith, limits .width-most)
+mul-result-2 c = omega arith
 
-additions-before-requires : tie.Need-additions-before-requires
-additions-before-requires c κs = search needs
+carried-before-requires : tie.Need-carried-before-requires
+carried-before-requires c κs = search needs
 
 mul-result-3 : tie.Need-mul-result-3
 mul-result-3 c =
     let start = c .before .before .before in
-    let s = start .args .sheet .now in
-    let h = start .args .header in
-    let read = start .pre .0 in
-    let limits = read-limited s h read in
-    omega (arith, limits .lines-most, carry-variables-most s h read (start .args .k) (c .additions-before .result) (c .additions-before .ensures))
+    omega (arith, carry-variables-most _ _ (start .pre .0) (start .args .k) (c .carried-before .result) (c .carried-before .ensures))
 
 add-result : tie.Need-add-result
 add-result c =
     let start = c .before .before .before in
-    let s = start .args .sheet .now in
-    let h = start .args .header in
-    let read = start .pre .0 in
-    let limits = read-limited s h read in
-    omega (arith, limits .lines-most, word-variables-most s h read, carry-variables-most s h read (start .args .k) (c .additions-before .result) (c .additions-before .ensures))
+    omega (
+      arith,
+      word-variables-most _ _ (start .pre .0),
+      carry-variables-most _ _ (start .pre .0) (start .args .k) (c .carried-before .result) (c .carried-before .ensures),
+    )
 
 returns : tie.Need-returns
 returns c =
     let start = c .before .before .before in
-    variables-are (start .args .sheet .now) (start .args .header) (start .pre .0) (start .args .k) (c .additions-before .result) (c .additions-before .ensures)
+    variables-are (start .args .sheet .now) (start .args .header) (start .pre .0) (start .args .k) (c .carried-before .result) (c .carried-before .ensures)
 
 pub variables-before-spec : {M : Type 1} → statement M
 variables-before-spec =
@@ -86,7 +51,7 @@ variables-before-spec =
     mul-result
     sub-result
     mul-result-2
-    additions-before-requires
+    carried-before-requires
     mul-result-3
     add-result
     returns)

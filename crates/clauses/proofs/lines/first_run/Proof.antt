@@ -1,5 +1,4 @@
 use native.Mathlib.Omega.{arith}
-use Rattle.sheet.proofs.WellFormed.{read-limited}
 use Rattle.clauses.proofs.SameRun.{first-run-is}
 use borrow.Author.Needs.{needs}
 use Rattle.clauses.proofs.lines.first_run.Statement.{statement}
@@ -7,7 +6,7 @@ use Rattle.clauses.proofs.lines.first_run.Tie as tie
 
 add-t5 : tie.Need-add-t5
 add-t5 c =
-    let limits = read-limited _ _ (c .before .before .pre .0) in
+    let limits = (c .before .before .pre .0) .limits in
     omega (arith, limits .inputs-most, limits .lines-most)
 
 line-at-requires : tie.Need-line-at-requires

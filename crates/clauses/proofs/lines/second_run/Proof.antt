@@ -1,6 +1,6 @@
 use native.Mathlib.Omega.{arith}
 use Rattle.trail.proofs.Runs.{second-below}
-use Rattle.sheet.proofs.WellFormed.{read-limited, line-at-right}
+use Rattle.sheet.proofs.WellFormed.{line-at-right}
 use Rattle.clauses.proofs.SheetCounts.{before-most}
 use Rattle.clauses.proofs.SameRun.{second-run-is}
 use borrow.Author.Needs.{needs}
@@ -25,19 +25,19 @@ difference-at-requires-2 c κs =
 add-word : tie.Need-add-word
 add-word c =
     let start = c .before .before .before .before .before in
-    let limits = read-limited _ _ (start .pre .0) in
+    let limits = (start .pre .0) .limits in
     omega (arith, limits .inputs-most, limits .lines-most)
 
 sub-carries : tie.Need-sub-carries
 sub-carries c =
     let start = c .before .before .before .before .before in
-    let limits = read-limited _ _ (start .pre .0) in
+    let limits = (start .pre .0) .limits in
     omega (arith, limits .width-least)
 
 add-carries : tie.Need-add-carries
 add-carries c =
     let start = c .before .before .before .before .before in
-    let limits = read-limited _ _ (start .pre .0) in
+    let limits = (start .pre .0) .limits in
     omega (arith, limits .width-most, limits .lines-most, start .pre .2, before-most (start .args .sheet .now) (start .args .header) (start .pre .0) (start .args .k))
 
 returns : tie.Need-returns

@@ -1,21 +1,20 @@
+-- The loop's invariant: the lines with carries among those passed are counted.
 use Prim.Native.Nat.{_+_, _-_, _≤_}
 use native.Mathlib.Omega.{arith}
 use mathlib.Core.Path.{_≡_, sym, ap, _∙_}
-use mathlib.Core.Logic.{⊎-elim, inl, inr}
+use mathlib.Core.Logic.{⊎-elim}
 use mathlib.Core.Bool.{true, false}
 use borrow.Author.Needs.{needs}
 use Rattle.words.specs.Below.{count}
 use Rattle.words.proofs.Below.{count-le}
 use Rattle.trail.specs.declared.Line.{Line}
 use Rattle.trail.specs.Kinds.{kindOf}
-use Rattle.clause_lists.specs.Kinds.{isAddition}
+use Rattle.clause_lists.specs.Kinds.{hasCarries}
 use Rattle.clause_lists.specs.Variables.{adds}
 use Rattle.sheet.specs.Fields.{trailOf}
-use Rattle.sheet.proofs.WellFormed.{read-limited}
-use Rattle.clause_writer.proofs.KindRanges.{adds-at, adds-not}
 use Rattle.clauses.proofs.SheetCounts.{count-start, count-more}
-use Rattle.clauses.proofs.counting.additions_before.Statement.{statement}
-use Rattle.clauses.proofs.counting.additions_before.Tie as tie
+use Rattle.clauses.proofs.counting.carried_before.Statement.{statement}
+use Rattle.clauses.proofs.counting.carried_before.Tie as tie
 
 abbrev Inv-loop : tie.InvT-loop
 Inv-loop sheet header k found₀ i₀ found i = (i ≤ k) × (found ≡ count i (adds (trailOf sheet)))
@@ -29,12 +28,14 @@ loop-holds c = (search needs, count-start _)
 line-at-requires : tie.Need-line-at-requires Inv-loop μ-loop
 line-at-requires c κs = (c .before .before .before .pre .0, omega arith)
 
+has-carries-requires : tie.Need-has-carries-requires Inv-loop μ-loop
+has-carries-requires c κs = search needs
+
 add-found : tie.Need-add-found Inv-loop μ-loop
 add-found c =
-    let start = c .before .before .before .before .before .before .before .before in
-    let h = c .before .before .before .before .before .before .loop in
-    let limits = read-limited _ _ (start .pre .0) in
-    omega (arith, count-le (h .i) (adds (trailOf (start .args .sheet .now))), limits .lines-most)
+    let start = c .before .before .before .before .before .before in
+    let h = c .before .before .before .before .loop in
+    omega (arith, count-le (h .i) (adds (trailOf (start .args .sheet .now))))
 
 add-i : tie.Need-add-i Inv-loop μ-loop
 add-i c = search needs
@@ -46,14 +47,10 @@ loop-again : tie.Need-loop-again Inv-loop μ-loop
 loop-again c =
     let h = c .before .before .before .before .loop in
     let t = trailOf (c .before .before .before .before .before .before .args .sheet .now) in
-    let same = ap (λ (l : Line). isAddition (kindOf (l .kind))) (sym (c .before .before .line-at .ensures)) in
-    let kind = c .before .before .line-at .result .kind in (
+    let same = ap (λ (l : Line). hasCarries (kindOf (l .kind))) (sym (c .before .before .line-at .ensures)) ∙ sym (c .before .has-carries .ensures) in (
       search needs,
-      ⊎-elim
-          (λ w. count-more (adds t) (h .i) false (h .inv .1) (same ∙ adds-not kind (inl (w .0 .taken))) (w .1 ∙ omega arith))
-          (⊎-elim
-          (λ w. count-more (adds t) (h .i) true (h .inv .1) (same ∙ adds-at kind (w .0 .left) (omega (arith, w .2 .taken))) (w .3))
-          (λ w. count-more (adds t) (h .i) false (h .inv .1) (same ∙ adds-not kind (inr (omega (arith, w .2 .left)))) (w .3 ∙ omega arith)))
+      ⊎-elim (λ w. count-more (adds t) (h .i) true (h .inv .1) (same ∙ w .0 .taken) (w .1))
+          (λ w. count-more (adds t) (h .i) false (h .inv .1) (same ∙ w .0 .left) (w .1 ∙ omega arith))
           (c .if1 .came),
     )
 
@@ -63,14 +60,15 @@ returns c =
     let e : h .i ≡ c .before .before .before .args .k = omega arith in
     h .inv .1 ∙ ap (λ n. count n (adds (trailOf (c .before .before .before .args .sheet .now)))) e
 
-pub additions-before-spec : {M : Type 1} → statement M
-additions-before-spec =
+pub carried-before-spec : {M : Type 1} → statement M
+carried-before-spec =
     tie.close
     (tie.spec
     Inv-loop
     μ-loop
     loop-holds
     line-at-requires
+    has-carries-requires
     add-found
     add-i
     loop-less
