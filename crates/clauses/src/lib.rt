@@ -53,7 +53,8 @@ pub fn clause_counts(sheet: &[u8]) -> CountsAnswer
 
 // Writes the list of line k from the buffer's start: literals, and a 0 after each clause.
 pub fn line_list(sheet: &[u8], k: usize, out: &mut [i32]) -> ListAnswer
-    ensures { λ r. ⌜ (listMeans r ≡ listCall (now (sheet .entry)) k (now (out .entry)) .answer) × (now (out .exit) ≡ listCall (now (sheet .entry)) k (now (out .entry)) .buffer) ⌝ }
+    ensures { λ r. ⌜ (listMeans r ≡ listCall (now (sheet .entry)) k (now (out .entry)) .answer)
+        × (now (out .exit) ≡ listCall (now (sheet .entry)) k (now (out .entry)) .buffer) ⌝ }
 {
     let reading = read(sheet);
     let Reading::Accepted(header) = reading else {

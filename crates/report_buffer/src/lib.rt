@@ -32,7 +32,9 @@ pub enum BufferAnswer {
 
 // Writes the reports of all lines, 16 bytes each, from the buffer's start.
 pub fn write_reports(sheet: &[u8], out: &mut [u8]) -> BufferAnswer
-    ensures { λ r. ⌜ (bufferMeans r ≡ verdict (bufferAsks (now (sheet .entry)) (now (out .entry))) (bytesNeeded (headerOf (now (sheet .entry)) .lines))) × (now (out .exit) ≡ bufferAfter (now (sheet .entry)) (now (out .entry))) ⌝ }
+    ensures { λ r. ⌜ (bufferMeans r ≡ verdict (bufferAsks (now (sheet .entry)) (now (out .entry)))
+        (bytesNeeded (headerOf (now (sheet .entry)) .lines)))
+        × (now (out .exit) ≡ bufferAfter (now (sheet .entry)) (now (out .entry))) ⌝ }
 {
     let reading = read(sheet);
     let Reading::Accepted(header) = reading else {

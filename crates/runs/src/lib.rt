@@ -26,7 +26,8 @@ pub enum RunsAnswer {
 
 // Runs the sheet's program on the starting words and on those XOR the input differences.
 pub fn two_runs(sheet: &[u8], start: &[u64]) -> RunsAnswer
-    ensures { λ r. ⌜ runsMeans r ≡ verdict (runsAsks (now (sheet .entry)) (now (start .entry))) (outcome (trailOf (now (sheet .entry))) (now (start .entry))) ⌝ }
+    ensures { λ r. ⌜ runsMeans r ≡ verdict (runsAsks (now (sheet .entry)) (now (start .entry)))
+        (outcome (trailOf (now (sheet .entry))) (now (start .entry))) ⌝ }
 {
     let reading = read(sheet);
     let Reading::Accepted(header) = reading else {

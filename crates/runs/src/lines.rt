@@ -51,8 +51,12 @@ pub(crate) fn run_lines(sheet: &[u8], header: Header, start: &[u64]) -> RunsAnsw
 
 // Makes line k's word in both runs. The answer has a 1 in each bit where the results' difference is not the stated one.
 fn run_line(sheet: &[u8], header: Header, k: usize, first: &mut Words, second: &mut Words) -> u64
-    requires { ⌜ SheetRead (now sheet) header × (k < header .lines) × Holds (header .width) (header .inputs + k) (now first) × Holds (header .width) (header .inputs + k) (now second) ⌝ }
-    ensures { λ r. ⌜ (now (first .exit) ≡ withLine (trailOf (now (sheet .entry))) k (now (first .entry))) × (now (second .exit) ≡ withLine (trailOf (now (sheet .entry))) k (now (second .entry))) × (r ≡ bitXor (bitXor (wordOfLine (trailOf (now (sheet .entry))) k (now (first .entry))) (wordOfLine (trailOf (now (sheet .entry))) k (now (second .entry)))) (lineAt (trailOf (now (sheet .entry))) k .difference)) ⌝ }
+    requires { ⌜ SheetRead (now sheet) header × (k < header .lines) × Holds (header .width) (header .inputs + k) (now first)
+        × Holds (header .width) (header .inputs + k) (now second) ⌝ }
+    ensures { λ r. ⌜ (now (first .exit) ≡ withLine (trailOf (now (sheet .entry))) k (now (first .entry)))
+        × (now (second .exit) ≡ withLine (trailOf (now (sheet .entry))) k (now (second .entry)))
+        × (r ≡ bitXor (bitXor (wordOfLine (trailOf (now (sheet .entry))) k (now (first .entry)))
+        (wordOfLine (trailOf (now (sheet .entry))) k (now (second .entry)))) (lineAt (trailOf (now (sheet .entry))) k .difference)) ⌝ }
 {
     let line = line_at(sheet, header, k);
     let word = header.inputs + k;
@@ -64,7 +68,8 @@ fn run_line(sheet: &[u8], header: Header, k: usize, first: &mut Words, second: &
 // Makes a line's word in one run, from the words before it.
 fn make_word(n: u32, line: Line, word: usize, words: &mut Words) -> u64
     requires { ⌜ (1 ≤ n) × (n ≤ 64) × (word < 256) × WellFormedLine n word line × Holds n word (now words) ⌝ }
-    ensures { λ r. ⌜ (r ≡ makes n line (getD (now (words .entry)) (line .first) 0) (getD (now (words .entry)) (line .second) 0)) × (now (words .exit) ≡ set (now (words .entry)) word r) ⌝ }
+    ensures { λ r. ⌜ (r ≡ makes n line (getD (now (words .entry)) (line .first) 0) (getD (now (words .entry)) (line .second) 0))
+        × (now (words .exit) ≡ set (now (words .entry)) word r) ⌝ }
 {
     let first = line.first;
     let second = line.second;

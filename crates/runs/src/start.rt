@@ -38,8 +38,11 @@ pub(crate) fn begin(
     first: &mut Words,
     second: &mut Words,
 )
-    requires { ⌜ SheetRead (now sheet) header × (isStart (trailOf (now sheet)) (now start) ≡ true) × (length (now first) ≡ 256) × (length (now second) ≡ 256) ⌝ }
-    ensures { λ _. ⌜ Made (trailOf (now (sheet .entry))) (now (start .entry)) (header .inputs) (now (first .exit)) × Made (trailOf (now (sheet .entry))) (partner (trailOf (now (sheet .entry))) (now (start .entry))) (header .inputs) (now (second .exit)) ⌝ }
+    requires { ⌜ SheetRead (now sheet) header × (isStart (trailOf (now sheet)) (now start) ≡ true) × (length (now first) ≡ 256)
+        × (length (now second) ≡ 256) ⌝ }
+    ensures { λ _. ⌜ Made (trailOf (now (sheet .entry))) (now (start .entry)) (header .inputs) (now (first .exit))
+        × Made (trailOf (now (sheet .entry))) (partner (trailOf (now (sheet .entry))) (now (start .entry))) (header .inputs)
+        (now (second .exit)) ⌝ }
 {
     let inputs = header.inputs;
     let mut j = 0;

@@ -16,7 +16,8 @@ use sheet::Reading;
 
 // Asks all questions but the checks', and writes every block's check where the answers are yes. A refusal changes no byte.
 pub fn seal(sheet: &mut [u8]) -> Reading
-    ensures { λ r. ⌜ (readingMeans r ≡ verdict (questions Seal (now (sheet .entry))) (headerOf (now (sheet .entry)))) × (now (sheet .exit) ≡ sealed (now (sheet .entry))) ⌝ }
+    ensures { λ r. ⌜ (readingMeans r ≡ verdict (questions Seal (now (sheet .entry))) (headerOf (now (sheet .entry))))
+        × (now (sheet .exit) ≡ sealed (now (sheet .entry))) ⌝ }
 {
     let reading = stages(sheet, Mode::Seal);
     let Reading::Accepted(header) = reading else {

@@ -17,7 +17,8 @@ use clauses::line_list;
 // Writes the counts of variables and of clauses. Counts these two.
 #[no_mangle]
 pub extern "C" fn tablegull_clause_counts(sheet: &[u8], out: &mut [u64]) -> TablegullAnswer
-    ensures { λ r. ⌜ Writes (countsAsks (now (sheet .entry)) (now (out .entry))) (countsNumbers (countsOf (trailOf (now (sheet .entry))))) (now (out .entry)) (now (out .exit)) r ⌝ }
+    ensures { λ r. ⌜ Writes (countsAsks (now (sheet .entry)) (now (out .entry))) (countsNumbers (countsOf (trailOf (now (sheet .entry)))))
+        (now (out .entry)) (now (out .exit)) r ⌝ }
 {
     if out.len() < 2 {
         return no_room(sheet);
@@ -39,7 +40,8 @@ pub extern "C" fn tablegull_line_clauses(
     line: u64,
     out: &mut [i32],
 ) -> TablegullAnswer
-    ensures { λ r. ⌜ Writes (listAsks (now (sheet .entry)) line (now (out .entry))) (lineList (trailOf (now (sheet .entry))) line) (now (out .entry)) (now (out .exit)) r ⌝ }
+    ensures { λ r. ⌜ Writes (listAsks (now (sheet .entry)) line (now (out .entry))) (lineList (trailOf (now (sheet .entry))) line)
+        (now (out .entry)) (now (out .exit)) r ⌝ }
 {
     let answer = line_list(sheet, line as usize, out);
     match answer {

@@ -23,7 +23,8 @@ use sheet::Refusal;
 // Writes one line's bytes of the report buffer. Counts bytes.
 #[no_mangle]
 pub extern "C" fn tablegull_line_report(sheet: &[u8], line: u64, out: &mut [u8]) -> TablegullAnswer
-    ensures { λ r. ⌜ Writes (lineReportAsks (now (sheet .entry)) line (now (out .entry))) (lineReportBytes (trailOf (now (sheet .entry))) line) (now (out .entry)) (now (out .exit)) r ⌝ }
+    ensures { λ r. ⌜ Writes (lineReportAsks (now (sheet .entry)) line (now (out .entry)))
+        (lineReportBytes (trailOf (now (sheet .entry))) line) (now (out .entry)) (now (out .exit)) r ⌝ }
 {
     let answer = line_report(sheet, line as usize);
     match answer {
@@ -44,7 +45,8 @@ pub extern "C" fn tablegull_line_report(sheet: &[u8], line: u64, out: &mut [u8])
 // Writes the report buffer: 16 bytes a line. Counts bytes.
 #[no_mangle]
 pub extern "C" fn tablegull_report(sheet: &[u8], out: &mut [u8]) -> TablegullAnswer
-    ensures { λ r. ⌜ Writes (bufferAsks (now (sheet .entry)) (now (out .entry))) (sheetBytes (trailOf (now (sheet .entry)))) (now (out .entry)) (now (out .exit)) r ⌝ }
+    ensures { λ r. ⌜ Writes (bufferAsks (now (sheet .entry)) (now (out .entry))) (sheetBytes (trailOf (now (sheet .entry))))
+        (now (out .entry)) (now (out .exit)) r ⌝ }
 {
     let answer = write_reports(sheet, out);
     match answer {
@@ -56,7 +58,8 @@ pub extern "C" fn tablegull_report(sheet: &[u8], out: &mut [u8]) -> TablegullAns
 // Writes the impossible lines, the weight in sixteenths and the chains. Counts these three.
 #[no_mangle]
 pub extern "C" fn tablegull_totals(sheet: &[u8], out: &mut [u64]) -> TablegullAnswer
-    ensures { λ r. ⌜ Writes (totalsAsks (now (sheet .entry)) (now (out .entry))) (totalsNumbers (sheetTotals (trailOf (now (sheet .entry))))) (now (out .entry)) (now (out .exit)) r ⌝ }
+    ensures { λ r. ⌜ Writes (totalsAsks (now (sheet .entry)) (now (out .entry)))
+        (totalsNumbers (sheetTotals (trailOf (now (sheet .entry))))) (now (out .entry)) (now (out .exit)) r ⌝ }
 {
     if out.len() < 3 {
         return no_room(sheet);

@@ -18,7 +18,8 @@ pub extern "C" fn tablegull_two_runs(
     start: &[u64],
     out: &mut [u64],
 ) -> TablegullAnswer
-    ensures { λ r. ⌜ Writes (outcomeAsks (now (sheet .entry)) (now (start .entry)) (now (out .entry))) (outcomeNumbers (outcome (trailOf (now (sheet .entry))) (now (start .entry)))) (now (out .entry)) (now (out .exit)) r ⌝ }
+    ensures { λ r. ⌜ Writes (outcomeAsks (now (sheet .entry)) (now (start .entry)) (now (out .entry)))
+        (outcomeNumbers (outcome (trailOf (now (sheet .entry))) (now (start .entry)))) (now (out .entry)) (now (out .exit)) r ⌝ }
 {
     if out.len() < 3 {
         return no_room(sheet);

@@ -28,7 +28,8 @@ pub extern "C" fn tablegull_read(sheet: &[u8]) -> TablegullAnswer
 // Asks all questions but the checks', and writes every block's check. Counts the blocks.
 #[no_mangle]
 pub extern "C" fn tablegull_seal(sheet: &mut [u8]) -> TablegullAnswer
-    ensures { λ r. ⌜ (r ≡ answerOf (verdict (questions Seal (now (sheet .entry))) (headerOf (now (sheet .entry)) .blocks))) × (now (sheet .exit) ≡ sealed (now (sheet .entry))) ⌝ }
+    ensures { λ r. ⌜ (r ≡ answerOf (verdict (questions Seal (now (sheet .entry))) (headerOf (now (sheet .entry)) .blocks)))
+        × (now (sheet .exit) ≡ sealed (now (sheet .entry))) ⌝ }
 {
     let reading = seal(sheet);
     match reading {

@@ -16,7 +16,8 @@ pub struct Line {
 
 // The word of n bits that a line makes from its operands' words.
 pub fn word_made(n: u32, line: Line, x: u64, y: u64) -> u64
-    requires { ⌜ (1 ≤ n) × (n ≤ 64) × (x < 2 ^ n) × (usesAmount (kindOf (line .kind)) ≡ true → ((1 ≤ line .amount) × (line .amount < n))) ⌝ }
+    requires { ⌜ (1 ≤ n) × (n ≤ 64) × (x < 2 ^ n)
+        × (usesAmount (kindOf (line .kind)) ≡ true → ((1 ≤ line .amount) × (line .amount < n))) ⌝ }
     ensures { λ r. ⌜ r ≡ makes n line x y ⌝ }
 {
     let kind = line.kind;

@@ -1,3 +1,4 @@
+-- A chain's logarithm is at most its length in sixteenths, so that the difference does not cut off.
 use borrow.Author.Needs.{needs}
 use Rattle.differential.proofs.Weights.{costing}
 use Rattle.chains.proofs.chain_cost.Statement.{statement}

@@ -1,3 +1,4 @@
+-- T is at most 2^K, so that neither choice of p cuts off.
 use native.Mathlib.Omega.{arith}
 use mathlib.Core.Path.{_∙_}
 use borrow.Author.Needs.{needs}

@@ -1,3 +1,4 @@
+-- The bits of T are bits of the constant shifted up by two.
 use native.Mathlib.Omega.{arith}
 use lib.Pow.{pow-mono}
 use borrow.Author.Needs.{needs}

@@ -1,3 +1,4 @@
+-- Impossible where no word fits; else the weight is that of the halvings and of the chains.
 use borrow.Author.Needs.{needs}
 use borrow.Author.Tests.{ne-eqb}
 use Rattle.differential.specs.Weight.{constantWeight}

@@ -1,3 +1,4 @@
+-- The ones of the differences' XOR, shifted up by one, below the width.
 use native.Mathlib.Omega.{arith}
 use mathlib.Core.Path.{refl}
 use Prim.Native.Nat.{_*_}

@@ -1,3 +1,4 @@
+-- `clause_counts` reads, and counts what reading accepted.
 use native.Mathlib.Omega.{arith}
 use mathlib.Core.Path.{sym, ap, _∙_}
 use Rattle.sheet.specs.Asking.Verdict.{accepted}

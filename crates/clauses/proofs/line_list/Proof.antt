@@ -1,3 +1,4 @@
+-- `line_list` reads, asks for the line and for the room, in that order, and writes only then.
 use Prim.Native.Nat.{ℕ, _≤_, _<_}
 use mathlib.Core.Path.{_≡_, sym, ap, _∙_, subst}
 use lib.ListN.{length}
@@ -89,7 +90,7 @@ returns-4 c =
     let k = start .args .k in
     let out = start .args .out .now in
     let read = was-read _ _ (c .before .before .before .before .before .before .before .before .before .before .before .read .ensures) _ (c .before .before .before .before .before .before .before .before .before .reading .given .1) in
-        let left = c .before .before .before .before .before .before .if1 .left in
+    let left = c .before .before .before .before .before .before .if1 .left in
     let need = numbers-are s _ read k left (c .before .before .before .before .before .line-at .ensures) (c .before .before .before .before .list-size .ensures .1) in
     let below : k < headerOf s .lines = subst (λ (h : Header). k < h .lines) (sym (read .parts)) left in
     let long : length (lineList (trailOf s) k) ≤ length out = subst (λ (n : ℕ). n ≤ length out) need (c .before .before .before .if2 .left) in

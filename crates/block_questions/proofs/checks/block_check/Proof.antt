@@ -2,7 +2,6 @@
 use Prim.Native.Nat.{_-_, _≤_}
 use borrow.Author.Needs.{needs}
 use Rattle.block_questions.proofs.CheckSums.{summing, Summed}
-use Rattle.block_questions.proofs.CheckSums.{summing}
 use Rattle.block_questions.proofs.checks.block_check.Tie as tie
 use Rattle.block_questions.proofs.checks.block_check.Statement.{statement}
 

@@ -1,3 +1,4 @@
+-- A check is right where the number at its place is the one that `block_check` makes.
 use borrow.Author.Needs.{needs}
 use Rattle.block_questions.proofs.checks.check_right.Tie as tie
 use Rattle.block_questions.proofs.checks.check_right.Statement.{statement}

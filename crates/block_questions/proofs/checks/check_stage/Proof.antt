@@ -1,3 +1,4 @@
+-- Reading asks the check of every block, sealing none.
 use Prim.Native.Nat.{ℕ}
 use mathlib.Core.Path.{_≡_, sym, ap, _∙_}
 use mathlib.Core.List.{List}

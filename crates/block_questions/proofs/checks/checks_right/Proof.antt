@@ -1,3 +1,4 @@
+-- The loop's invariant: the checks of all blocks passed are right.
 use borrow.Author.Needs.{needs}
 use Prim.Native.Nat.{_-_, _≤_}
 use mathlib.Core.Path.{_≡_}

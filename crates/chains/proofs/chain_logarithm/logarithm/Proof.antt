@@ -1,3 +1,4 @@
+-- The whole bits of the logarithm in sixteenths, and the four bits after the highest one.
 use native.Mathlib.Omega.{arith}
 use borrow.Author.Needs.{needs}
 use Rattle.differential.specs.Logarithm.{logarithm}

@@ -1,3 +1,4 @@
+-- The loop's invariant: the clauses of the lines passed are summed, which fits by the limit on all.
 use Prim.Native.Nat.{_+_, _-_, _≤_}
 use native.Mathlib.Omega.{arith}
 use mathlib.Core.Path.{_≡_}

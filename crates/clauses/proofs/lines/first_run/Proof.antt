@@ -1,3 +1,4 @@
+-- In the first run no literal is negated.
 use native.Mathlib.Omega.{arith}
 use Rattle.clauses.proofs.SameRun.{first-run-is}
 use borrow.Author.Needs.{needs}

@@ -1,3 +1,4 @@
+-- The second run's clauses stand behind the first's.
 use mathlib.Core.Path.{refl}
 use borrow.Author.Needs.{needs}
 use Rattle.sheet.specs.Fields.{trailOf}

@@ -1,3 +1,4 @@
+-- In the second run the ones of a word's difference negate its literals.
 use native.Mathlib.Omega.{arith}
 use Rattle.trail.proofs.Runs.{second-below}
 use Rattle.sheet.proofs.WellFormed.{line-at-right}
