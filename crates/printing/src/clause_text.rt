@@ -61,7 +61,7 @@ fn put_counts(out: &mut [u8; OUTPUT_BYTES], at: usize, counts: Counts) -> usize
     put_byte(out, clauses, b'\n')
 }
 
-// The lists of all lines, each written over the one before it.
+// The lists of all lines, each written over the one before it. A refusal would be printed, and not taken for the lines' end.
 fn put_lists(out: &mut [u8; OUTPUT_BYTES], at: usize, sheet: &[u8], header: Header) -> usize
     requires { ⌜ (at ≤ 8192) × SheetRead (now sheet) header ⌝ }
     ensures { λ r. ⌜ r ≤ 8192 ⌝ }
@@ -70,27 +70,12 @@ fn put_lists(out: &mut [u8; OUTPUT_BYTES], at: usize, sheet: &[u8], header: Head
     let mut list = [0i32; LIST_NUMBERS];
     let mut next = at;
     for k in 0..lines {
-        next = put_line(out, next, sheet, header, k, &mut list);
+        next = match write_list(sheet, header, k, &mut list) {
+            ListAnswer::Written(count) => put_list(out, next, &list[0..count]),
+            ListAnswer::Refused(refusal) => put_refusal(out, next, refusal),
+        };
     }
     next
-}
-
-// The list of line k, by way of a buffer. A refusal would be printed in its place, and not taken for the end of the lines.
-fn put_line(
-    out: &mut [u8; OUTPUT_BYTES],
-    at: usize,
-    sheet: &[u8],
-    header: Header,
-    k: usize,
-    list: &mut [i32],
-) -> usize
-    requires { ⌜ (at ≤ 8192) × SheetRead (now sheet) header × (k < header .lines) × (4944 ≤ length (now list)) ⌝ }
-    ensures { λ r. ⌜ r ≤ 8192 ⌝ }
-{
-    match write_list(sheet, header, k, list) {
-        ListAnswer::Written(count) => put_list(out, at, &list[0..count]),
-        ListAnswer::Refused(refusal) => put_refusal(out, at, refusal),
-    }
 }
 
 // Writes the list of a line that the sheet has. A buffer that is long enough for every list is not refused.
