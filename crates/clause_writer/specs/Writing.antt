@@ -1,7 +1,7 @@
 -- What the inner functions that write a line's list cite: one run of a line as the code holds it.
-use Prim.Native.Nat.{ℕ, _+_, _-_, _*_, _/_, _≤_, _<_, _^_}
+use Prim.Native.Nat.{ℕ, zero, suc, _+_, _-_, _*_, _/_, _≤_, _<_, _^_}
 use mathlib.Core.Path.{_≡_}
-use mathlib.Core.Bool.{Bool, cond}
+use mathlib.Core.Bool.{Bool, _&&_, cond}
 use mathlib.Core.List.{List, [], _∷_, _++_}
 use lib.Dec.{eqb, ltb}
 use lib.ListN.{length, take}
@@ -11,10 +11,10 @@ use Rattle.words.specs.Words.{bit}
 use Rattle.trail.specs.Kinds.{kindOf}
 use Rattle.trail.specs.WellFormed.{WellFormedLine}
 use Rattle.cnf.specs.Formulas.{numbers}
-use Rattle.cnf.specs.Gates.{Input, literals, valuesIn}
+use Rattle.cnf.specs.Gates.{Input, literals, valuesIn, gate}
 use Rattle.cnf.specs.Tables.{tableGate, Small}
-use Rattle.clause_lists.specs.Kinds.{Taken, gates, takenInput, otherInputs, carryInputs}
-use Rattle.clause_lists.specs.Lists.{inputs, nextClauses, bitClauses, runClauses}
+use Rattle.clause_lists.specs.Kinds.{parity, twoOrMore, Taken, gates, hasCarries, takenInput, otherInputs, carryInputs}
+use Rattle.clause_lists.specs.Lists.{inputs, bitClauses, runClauses}
 use Rattle.clause_writer.specs.declared.LineRun.{LineRun}
 use Rattle.clause_writer.specs.declared.inputs.Inputs.{Inputs}
 
@@ -49,12 +49,23 @@ carriesIn r i = carryInputs (gates (kindOf (r .line .kind)) .carries) (carryIn r
 abbrev pub inputsIn : LineRun → ℕ → List Input
 inputsIn r i = inputs (r .width) (r .word) (r .line) (wordIn r) (carryIn r) i
 
--- ---- the clauses of the carry out of bit i, those of bit i and those of all bits
+-- ---- the outputs of bit i: output 0 is the result, and output 1 the carry into the next bit; none goes out of the highest bit
 
-abbrev pub clausesOfNext : LineRun → ℕ → List (List ℤ)
-clausesOfNext r i =
-    cond (ltb (i + 1) (r .width))
-    (nextClauses (r .width) (r .word) (r .line) (wordIn r) (carryIn r) (gates (kindOf (r .line .kind)) .carries) i) []
+abbrev pub outputsOf : LineRun → ℕ → ℕ
+outputsOf r i = cond (ltb (i + 1) (r .width) && hasCarries (kindOf (r .line .kind))) 2 1
+
+abbrev pub functionOf : ℕ → List Bool → Bool
+functionOf zero = parity
+functionOf (suc j) = twoOrMore
+
+abbrev pub outputIn : LineRun → ℕ → ℕ → ℤ
+outputIn r i zero = wordIn r (r .word) i
+outputIn r i (suc j) = carryIn r (i + 1)
+
+-- ---- the clauses of an output, those of bit i and those of all bits
+
+abbrev pub clausesOfOutput : LineRun → ℕ → ℕ → List (List ℤ)
+clausesOfOutput r i j = gate (functionOf j) (inputsIn r i) (outputIn r i j)
 
 abbrev pub clausesOfBit : LineRun → ℕ → List (List ℤ)
 clausesOfBit r i = bitClauses (r .width) (r .word) (r .line) (wordIn r) (carryIn r) i

@@ -3,6 +3,7 @@ mod bits;
 mod inputs;
 pub mod kinds;
 mod literals;
+mod outputs;
 mod tables;
 
 ghost use mathlib.Core.Path.{_≡_};
