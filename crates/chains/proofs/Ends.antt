@@ -39,7 +39,7 @@ not-000-word u v =
     some false false true = refl
     some false false false = refl
 
--- states 11* that have no state but 000 directly below
+-- the states 11* that have no state other than 000 directly below, where w has those that are not 000
 abbrev pub endsWord : ℕ → ℕ → ℕ → ℕ
 endsWord u v w =
     bitXor (bitAnd (u * 2 % 2 ^ 64) (v * 2 % 2 ^ 64)) (bitAnd (bitAnd (u * 2 % 2 ^ 64) (v * 2 % 2 ^ 64)) (w * 2 % 2 ^ 64))
@@ -64,7 +64,7 @@ module _ (u v w : ℕ) (h : Not000 u v w) where
         below = mask-lt (endsWord u v w) n;
       }
 
-  -- below position i: from its end on the run of states 000, and directly below that a state that is none, if any
+  -- under the run of states 000 that stands directly below position i there are m states, of which the highest is not 000
   run : (i m : ℕ) → i ≤ 64 → quiet u v i + m ≡ i → (w % 2 ^ i < 2 ^ m) × (2 ^ m ≤ 2 * (w % 2 ^ i) + 1)
   unfolding quiet
   run zero m l e = subst (λ (k : ℕ). (w % 1 < 2 ^ k) × (2 ^ k ≤ 2 * (w % 1) + 1)) none (mod-lt w (omega arith), omega arith)
