@@ -10,24 +10,27 @@ use lib.Count.{ones, leadingZeros, leading-unique}
 use lib.Dec.{ltb}
 use lib.Pow.{mod-mod-pow, pow-mono, pow-pos}
 use borrow.Author.Tests.{lt-ltb, ltb-true}
+use mir.Syntax.{w32}
+use mir.Val.{Fits}
 use Rattle.words.specs.Words.{value, bit, bitBelow}
 use Rattle.words.specs.Below.{total}
 use Rattle.words.proofs.Below.{count-cong}
 use Rattle.words.proofs.Bits.{below-suc, below-zero, bit-and, bit-mod, bit-or, bit-shl, bit-xor, mod-bit}
 use Rattle.words.proofs.Ones.{ones-count}
-use Rattle.differential.specs.Constant.{state, is000, is11, quiet, isChain, chains, chainP}
-use Rattle.differential.specs.Logarithm.{highestOne, logarithm}
+use Rattle.differential.specs.Constant.{state, is000, is11, quiet, constantFitting, isChain, chains, chainP}
+use Rattle.differential.specs.Logarithm.{highestOne}
 use Rattle.differential.specs.Weight.{chainCost}
 use Rattle.differential.proofs.ChainLaws.{quiet-le}
 use Rattle.differential.proofs.Logarithms.{highestOne-low, highestOne-high}
 use Rattle.differential.proofs.Powers.{exponent-lt}
+use Rattle.differential.proofs.Product.{chainP-pos}
 use Rattle.differential.proofs.Weights.{costs-le}
-use Rattle.chains.specs.Ends.{Loud, ChainEnds}
+use Rattle.chains.specs.Ends.{Not000, ChainEnds}
 
 -- ---- the words
 
-pub loud-word : (u v : ℕ) → Loud u v (bitOr (bitOr (u * 2 % 2 ^ 64) (v * 2 % 2 ^ 64)) (bitXor u v))
-loud-word u v =
+pub not-000-word : (u v : ℕ) → Not000 u v (bitOr (bitOr (u * 2 % 2 ^ 64) (v * 2 % 2 ^ 64)) (bitXor u v))
+not-000-word u v =
     record { each = λ i l. simp (bit-or, bit-xor, bit-shl 64 1 u i l, bit-shl 64 1 v i l) (some (bitBelow 1 u i) (bitBelow 1 v i) (xor (bit u i) (bit v i))) }
   where
     some : (p q r : Bool) → ((p || q) || r) ≡ not (not p && (not q && not r))
@@ -36,13 +39,13 @@ loud-word u v =
     some false false true = refl
     some false false false = refl
 
--- states 11* that have no state but 000 directly below
-abbrev pub ends : ℕ → ℕ → ℕ → ℕ
-ends u v w =
+-- the states 11* that have no state other than 000 directly below, where w has those that are not 000
+abbrev pub endsWord : ℕ → ℕ → ℕ → ℕ
+endsWord u v w =
     bitXor (bitAnd (u * 2 % 2 ^ 64) (v * 2 % 2 ^ 64)) (bitAnd (bitAnd (u * 2 % 2 ^ 64) (v * 2 % 2 ^ 64)) (w * 2 % 2 ^ 64))
 
-module _ (u v w : ℕ) (h : Loud u v w) where
-  end-bit : (i : ℕ) → i < 64 → bit (ends u v w) i ≡ isChain u v i
+module _ (u v w : ℕ) (h : Not000 u v w) where
+  end-bit : (i : ℕ) → i < 64 → bit (endsWord u v w) i ≡ isChain u v i
   unfolding isChain quiet xor
   end-bit zero l = simp (bit-and, bit-xor, bit-shl 64 1 u 0 l, below-zero u)
   end-bit (suc i) l =
@@ -54,14 +57,14 @@ module _ (u v w : ℕ) (h : Loud u v w) where
       at true false = refl
       at true true = sym (lt-ltb 0 (suc (quiet u v i)) (omega arith))
 
-  pub ends-word : (n : ℕ) → n ≤ 64 → ChainEnds n u v (bitAnd (ends u v w) (2 ^ n - 1))
+  pub ends-word : (n : ℕ) → n ≤ 64 → ChainEnds n u v (bitAnd (endsWord u v w) (2 ^ n - 1))
   ends-word n l =
       record {
-        each = λ i m. ap (λ (x : ℕ). bit x i) (and-mask (ends u v w) n) ∙ bit-mod (ends u v w) n i m ∙ end-bit i (omega arith);
-        below = mask-lt (ends u v w) n;
+        each = λ i m. ap (λ (x : ℕ). bit x i) (and-mask (endsWord u v w) n) ∙ bit-mod (endsWord u v w) n i m ∙ end-bit i (omega arith);
+        below = mask-lt (endsWord u v w) n;
       }
 
-  -- below position i: from its end on the run of states 000, and directly below that a state that is none, if any
+  -- under the run of states 000 that stands directly below position i there are m states, of which the highest is not 000
   run : (i m : ℕ) → i ≤ 64 → quiet u v i + m ≡ i → (w % 2 ^ i < 2 ^ m) × (2 ^ m ≤ 2 * (w % 2 ^ i) + 1)
   unfolding quiet
   run zero m l e = subst (λ (k : ℕ). (w % 1 < 2 ^ k) × (2 ^ k ≤ 2 * (w % 1) + 1)) none (mod-lt w (omega arith), omega arith)
@@ -81,11 +84,17 @@ module _ (u v w : ℕ) (h : Loud u v w) where
           subst (λ (k : ℕ). (w % 2 ^ suc i < 2 ^ k) × (2 ^ k ≤ 2 * (w % 2 ^ suc i) + 1)) top
           (mod-lt w (pow-pos (suc i)), omega (arith, mod-bit w i, ap (λ (t : Bool). value t * 2 ^ i) (h .each i l ∙ ap not f)))
 
-  pub run-zeros : (i : ℕ) → i ≤ 64 → i + leadingZeros 64 (w % 2 ^ i) ≡ 64 + quiet u v i
-  run-zeros i l =
-      let m : ℕ = i - quiet u v i in
-      let gap = run i m l (omega (arith, quiet-le u v i)) in
-      omega (arith, quiet-le u v i, leading-unique 64 (w % 2 ^ i) (64 - m) m (omega arith) (gap .0) (gap .1))
+  pub run-zeros : (i : ℕ) {m : ℕ} → i ≤ 64 → m ≡ 2 ^ i - 1 → i + leadingZeros 64 (bitAnd w m) ≡ 64 + quiet u v i
+  run-zeros i {m} l e =
+      let rest : ℕ = i - quiet u v i in
+      let gap = run i rest l (omega (arith, quiet-le u v i)) in
+      omega (
+        arith,
+        quiet-le u v i,
+        ap (λ (x : ℕ). leadingZeros 64 (bitAnd w x)) e,
+        ap (leadingZeros 64) (and-mask w i),
+        leading-unique 64 (w % 2 ^ i) (64 - rest) rest (omega arith) (gap .0) (gap .1),
+      )
 
 -- a chain has one state 000 at least
 pub chain-some : (u v i : ℕ) → isChain u v i ≡ true → 0 < quiet u v i
@@ -95,7 +104,7 @@ chain-some u v i e = ltb-true 0 (quiet u v i) (and-eq-true-iff (is11 (state u v 
 -- ---- the chains from the highest down
 
 -- what is left: the ones of the ends below a bound, and the cost of the chains below it
-pub record Left (n a u v ends cost rest : ℕ) : Type 0 where
+pub record Remaining (n a u v ends cost rest : ℕ) : Type 0 where
   pub bound : ℕ
   pub bound-le : bound ≤ n
   pub rest-is : rest ≡ ends % 2 ^ bound
@@ -130,76 +139,77 @@ module _ (n a u v ends : ℕ) (h : ChainEnds n u v ends) where
           rw none
           (omega (arith, shorter (omega (arith, low, ap (λ (t : Bool). value t * 2 ^ (c + d)) f))))
 
-  pub left-all : Left n a u v ends 0 ends
-  left-all = record { bound = n; bound-le = omega arith; rest-is = sym (mod-eq-of-lt (h .below)); cost-is = omega arith }
+  pub all-remaining : Remaining n a u v ends 0 ends
+  all-remaining = record { bound = n; bound-le = omega arith; rest-is = sym (mod-eq-of-lt (h .below)); cost-is = omega arith }
 
-  pub left-none : (cost : ℕ) → Left n a u v ends cost 0 → cost ≡ total n (chainCost a u v)
+  pub none-remaining : (cost : ℕ) → Remaining n a u v ends cost 0 → cost ≡ total n (chainCost a u v)
   unfolding total
-  left-none cost k = omega (arith, k .cost-is, passed 0 (k .bound) (k .bound) (omega arith) (k .bound-le) (omega (arith, k .rest-is)))
+  none-remaining cost k = omega (arith, k .cost-is, passed 0 (k .bound) (k .bound) (omega arith) (k .bound-le) (omega (arith, k .rest-is)))
 
-  -- at the highest one of what is left a chain ends
-  pub record Next (cost rest i : ℕ) : Type 0 where
-    pub below : i < n
-    pub chain : isChain u v i ≡ true
-    pub one : 2 ^ i ≤ rest
-    pub few : cost + chainCost a u v i ≤ 16 * n
-    pub left : Left n a u v ends (cost + chainCost a u v i) (rest - 2 ^ i)
+-- at the highest one of what is left a chain ends: rules for `search`
+module _ (n a u v ends cost rest i : ℕ)
+    (h : ChainEnds n u v ends) (k : Remaining n a u v ends cost rest) (some : rest ≡ 0 → ⊥) (e : i ≡ highestOne rest) where
+  low : 2 ^ i ≤ rest
+  low = rw e (highestOne-low rest (omega arith))
 
-  pub left-next : (cost rest i : ℕ) → Left n a u v ends cost rest → (rest ≡ 0 → ⊥) → i ≡ highestOne rest → Next cost rest i
-  unfolding total
-  left-next cost rest i k some e =
-      record {
-        below = omega (arith, within, k .bound-le);
-        chain = sym (h .each i (omega (arith, within, k .bound-le))) ∙ sym (bit-mod ends (k .bound) i within) ∙ ap (λ (x : ℕ). bit x i) (sym (k .rest-is)) ∙ set;
-        one = low;
-        few = omega (arith, after, costs-le n a u v);
-        left =
-            record {
-              bound = i;
-              bound-le = omega (arith, within, k .bound-le);
-              rest-is = omega (arith, parts, ap (λ (t : Bool). value t * 2 ^ i) set, lower);
-              cost-is = after;
-            };
-      }
+  high : rest < 2 ^ suc i
+  high = rw (← add-one i, e) (highestOne-high rest (omega arith))
+
+  within : i < k .bound
+  within = exponent-lt i (k .bound) (omega (arith, low, k .rest-is, mod-lt ends (pow-pos (k .bound))))
+
+  set : bit rest i ≡ true
+  set = at (bit rest i) refl
     where
-      pos : 0 < rest
-      pos = omega arith
+      at : (t : Bool) → bit rest i ≡ t → t ≡ true
+      at true f = refl
+      at false f = absurd (omega (arith, low, mod-eq-of-lt high, mod-bit rest i, ap (λ (t : Bool). value t * 2 ^ i) f, mod-lt rest (pow-pos i)))
 
-      low : 2 ^ i ≤ rest
-      low = rw e (highestOne-low rest pos)
+  pub end-below : (m : ℕ) → n ≤ m → i < m
+  end-below m l = omega (arith, within, k .bound-le)
 
-      high : rest < 2 ^ suc i
-      high = rw (← add-one i, e) (highestOne-high rest pos)
+  pub end-chain : isChain u v i ≡ true
+  end-chain =
+      sym (h .each i (end-below n (omega arith)))
+      ∙ sym (bit-mod ends (k .bound) i within)
+      ∙ ap (λ (x : ℕ). bit x i) (sym (k .rest-is))
+      ∙ set
 
-      within : i < k .bound
-      within = exponent-lt i (k .bound) (omega (arith, low, k .rest-is, mod-lt ends (pow-pos (k .bound))))
+  pub end-least : 1 ≤ i
+  end-least = omega (arith, chain-some u v i end-chain, quiet-le u v i)
 
-      parts : rest ≡ value (bit rest i) * 2 ^ i + rest % 2 ^ i
-      parts = sym (mod-eq-of-lt high) ∙ mod-bit rest i
+  pub end-pos : v < 2 ^ n → 0 < constantFitting n a u v → 0 < chainP a u v (quiet u v i) i
+  end-pos l fit = chainP-pos n a u v l fit i (end-below n (omega arith)) end-chain
 
-      set : bit rest i ≡ true
-      set = at (bit rest i) refl
-        where
-          at : (t : Bool) → bit rest i ≡ t → t ≡ true
-          at true f = refl
-          at false f = absurd (omega (arith, low, parts, ap (λ (t : Bool). value t * 2 ^ i) f, mod-lt rest (pow-pos i)))
+  after : cost + chainCost a u v i + total i (chainCost a u v) ≡ total n (chainCost a u v)
+  unfolding total
+  after =
+      omega (
+        arith,
+        k .cost-is,
+        passed n a u v ends h (suc i) (k .bound - suc i) (k .bound) (omega (arith, within)) (k .bound-le) (rw (← k .rest-is) high),
+      )
 
-      lower : rest % 2 ^ i ≡ ends % 2 ^ i
-      lower = ap (λ (x : ℕ). x % 2 ^ i) (k .rest-is ∙ ap (λ (b : ℕ). ends % 2 ^ b) split) ∙ mod-mod-pow ends (k .bound - i) i
-        where
-          split : k .bound ≡ k .bound - i + i
-          split = omega (arith, within)
+  pub end-fits : {r : ℕ} → r ≡ chainCost a u v i → n ≤ 32 → Fits w32 (cost + r)
+  end-fits f l = record { fits = omega (arith, after, costs-le n a u v) }
 
-      after : cost + chainCost a u v i + total i (chainCost a u v) ≡ total n (chainCost a u v)
-      after =
-          omega (
-            arith,
-            k .cost-is,
-            passed (suc i) (k .bound - suc i) (k .bound) (omega (arith, within)) (k .bound-le) (rw (← k .rest-is) high),
-          )
+  module _ {m : ℕ} (g : m ≡ 2 ^ i - 1) where
+    masked : bitAnd rest m ≡ rest % 2 ^ i
+    masked = ap (bitAnd rest) g ∙ and-mask rest i
 
--- the cost of a chain, as the code finds it
-pub chain-costs : (a u v i k : ℕ) {r : ℕ} → isChain u v i ≡ true → k ≡ quiet u v i → r ≡ 16 * k - logarithm (chainP a u v k i)
-    → r ≡ chainCost a u v i
-unfolding chainCost
-chain-costs a u v i k chain run e = e ∙ rw (chain, run)
+    pub end-less : bitAnd rest m < rest
+    end-less = omega (arith, masked, low, mod-lt rest (pow-pos i))
+
+    pub end-remaining : {r : ℕ} → r ≡ chainCost a u v i → Remaining n a u v ends (cost + r) (bitAnd rest m)
+    end-remaining f =
+        record {
+          bound = i;
+          bound-le = omega (arith, end-below n (omega arith));
+          rest-is = masked ∙ ap (λ (x : ℕ). x % 2 ^ i) (k .rest-is ∙ ap (λ (b : ℕ). ends % 2 ^ b) split) ∙ mod-mod-pow ends (k .bound - i) i;
+          cost-is = omega (arith, after);
+        }
+      where
+        split : k .bound ≡ k .bound - i + i
+        split = omega (arith, within)
+
+pub ruleset ending = (end-below, end-chain, end-least, end-pos, end-fits, end-less, end-remaining)

@@ -2,13 +2,13 @@
 mod chain_logarithm;
 
 ghost use mathlib.Core.Path.{_≡_};
-ghost use Prim.Native.Nat.{_+_, _*_, _-_, _<_, _≤_, _^_};
+ghost use Prim.Native.Nat.{_*_, _<_, _≤_, _^_};
+ghost use mathlib.Core.Bool.{true};
 ghost use Rattle.words.specs.Below.{total};
-ghost use Rattle.differential.specs.Constant.{constantFitting, halvings as Constant·halvings, quiet, chains, chainT, chainP};
-ghost use Rattle.differential.specs.Logarithm.{logarithm as Logarithm·logarithm};
+ghost use Rattle.differential.specs.Constant.{constantFitting, halvings as Constant·halvings, quiet, isChain, chains, chainT, chainP};
 ghost use Rattle.differential.specs.Weight.{chainCost};
 ghost use Rattle.differential.specs.Report.{reportMeans, constantReport};
-ghost use Rattle.chains.specs.Ends.{Loud, ChainEnds};
+ghost use Rattle.chains.specs.Ends.{Not000, ChainEnds};
 use crate::chain_logarithm::highest_one;
 use crate::chain_logarithm::logarithm;
 use carry_pairs::fitting;
@@ -58,9 +58,9 @@ fn all_chains(n: u32, a: u64, u: u64, v: u64) -> Chains
     let mut rest = ends;
     while rest != 0 {
         let i = highest_one(rest);
-        let next = chain_cost(a, u, v, quiet_below(u, v, i), i);
+        let next = chain_cost(a, u, v, i);
         cost += next.0;
-        rest -= 1 << i;
+        rest &= mask(i);
     }
     Chains {
         cost: Sixteenths(cost),
@@ -73,33 +73,34 @@ fn chain_ends(n: u32, u: u64, v: u64) -> u64
     requires { ⌜ (1 ≤ n) × (n ≤ 32) ⌝ }
     ensures { λ r. ⌜ ChainEnds n u v r ⌝ }
 {
-    let both = (u << 1) & (v << 1);
-    (both ^ (both & (loud(u, v) << 1))) & mask(n)
-}
-
-// How many states 000 stand directly below position i.
-fn quiet_below(u: u64, v: u64, i: u32) -> u32
-    requires { ⌜ (1 ≤ i) × (i < 32) ⌝ }
-    ensures { λ r. ⌜ r ≡ quiet u v i ⌝ }
-{
-    i + u64::leading_zeros(loud(u, v) & mask(i)) - 64
+    let is_11 = (u << 1) & (v << 1);
+    (is_11 ^ (is_11 & (not_000(u, v) << 1))) & mask(n)
 }
 
 // A one at each position whose state is not 000.
-fn loud(u: u64, v: u64) -> u64
-    ensures { λ r. ⌜ Loud u v r ⌝ }
+fn not_000(u: u64, v: u64) -> u64
+    ensures { λ r. ⌜ Not000 u v r ⌝ }
 {
     (u << 1) | (v << 1) | (u ^ v)
 }
 
-// 16K - A.
-fn chain_cost(a: u64, u: u64, v: u64, k: u32, i: u32) -> Sixteenths
-    requires { ⌜ (1 ≤ k) × (k ≤ i) × (i < 32) × (a < 2 ^ 32) × (0 < chainP a u v k i) ⌝ }
-    ensures { λ r. ⌜ r .0 ≡ 16 * k - Logarithm·logarithm (chainP a u v k i) ⌝ }
+// 16K - A, of the chain that ends at position i.
+fn chain_cost(a: u64, u: u64, v: u64, i: u32) -> Sixteenths
+    requires { ⌜ (isChain u v i ≡ true) × (i < 32) × (a < 2 ^ 32) × (0 < chainP a u v (quiet u v i) i) ⌝ }
+    ensures { λ r. ⌜ r .0 ≡ chainCost a u v i ⌝ }
 {
+    let k = chain_length(u, v, i);
     let whole = in_sixteenths(WholeBits(k));
     let known = logarithm(chain_number(a, u, v, k, i));
     Sixteenths(whole.0 - known.0)
+}
+
+// K, of the chain that ends at position i: the states directly below it that are 000.
+fn chain_length(u: u64, v: u64, i: u32) -> u32
+    requires { ⌜ (isChain u v i ≡ true) × (i < 32) ⌝ }
+    ensures { λ r. ⌜ (r ≡ quiet u v i) × (1 ≤ r) × (r ≤ i) ⌝ }
+{
+    i + u64::leading_zeros(not_000(u, v) & mask(i)) - 64
 }
 
 // p: T if a[i-1] XOR u[i] XOR v[i] is 1, else 2^K - T.

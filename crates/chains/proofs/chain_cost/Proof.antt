@@ -1,8 +1,12 @@
 -- A chain's logarithm is at most its length in sixteenths, so that the difference does not cut off.
 use borrow.Author.Needs.{needs}
+use Rattle.differential.specs.Weight.{chainCost}
 use Rattle.differential.proofs.Weights.{costing}
 use Rattle.chains.proofs.chain_cost.Statement.{statement}
 use Rattle.chains.proofs.chain_cost.Tie as tie
+
+chain-length-requires : tie.Need-chain-length-requires
+chain-length-requires c κs = search needs
 
 in-sixteenths-requires : tie.Need-in-sixteenths-requires
 in-sixteenths-requires c κs = search needs
@@ -11,15 +15,24 @@ chain-number-requires : tie.Need-chain-number-requires
 chain-number-requires c κs = search needs
 
 logarithm-requires : tie.Need-logarithm-requires
-logarithm-requires c κs = search needs
+logarithm-requires c κs = rw (c .chain-number .ensures, c .before .before .chain-length .ensures .0) (c .before .before .before .pre .3)
 
 sub-t10 : tie.Need-sub-t10
-sub-t10 c = search costing
+sub-t10 c =
+    let some = rw (← c .before .before .before .before .before .chain-length .ensures .0) at (c .before .before .before .before .before .before .pre .3) in
+    search costing
 
 returns : tie.Need-returns
-returns c = search costing
+unfolding chainCost
+returns c = rw (c .before .before .before .before .before .before .pre .0, ← c .before .before .before .before .before .chain-length .ensures .0) (search costing)
 
 pub chain-cost-spec : {M : Type 1} → statement M
 chain-cost-spec =
     tie.close
-    (tie.spec in-sixteenths-requires chain-number-requires logarithm-requires sub-t10 returns)
+    (tie.spec
+    chain-length-requires
+    in-sixteenths-requires
+    chain-number-requires
+    logarithm-requires
+    sub-t10
+    returns)

@@ -1,0 +1,9 @@
+use Rattle.chains.proofs.Ends.{not-000-word}
+use Rattle.chains.proofs.not_000.Statement.{statement}
+use Rattle.chains.proofs.not_000.Tie as tie
+
+returns : tie.Need-returns
+returns c = not-000-word _ _
+
+pub not-000-spec : {M : Type 1} → statement M
+not-000-spec = tie.close (tie.spec returns)
