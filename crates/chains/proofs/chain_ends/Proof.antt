@@ -1,3 +1,4 @@
+-- A chain ends where both bits below are 1 and the state one place below is 000.
 use native.Mathlib.Omega.{arith}
 use borrow.Author.Needs.{needs}
 use Rattle.chains.proofs.Ends.{ends-word}

@@ -1,3 +1,4 @@
+-- A state is not 000 where a bit below it is 1 or the two differ there.
 use Rattle.chains.proofs.Ends.{not-000-word}
 use Rattle.chains.proofs.not_000.Statement.{statement}
 use Rattle.chains.proofs.not_000.Tie as tie

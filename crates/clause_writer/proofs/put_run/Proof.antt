@@ -1,3 +1,4 @@
+-- The loop's invariant: the clauses of the bits passed stand in the buffer, one behind the other.
 use Prim.Native.Nat.{_-_, _≤_}
 use native.Mathlib.Omega.{arith}
 use mathlib.Core.Path.{_≡_, refl, _∙_}
