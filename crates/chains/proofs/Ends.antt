@@ -18,13 +18,13 @@ use Rattle.words.proofs.Below.{count-cong}
 use Rattle.words.proofs.Bits.{below-suc, below-zero, bit-and, bit-mod, bit-or, bit-shl, bit-xor, mod-bit}
 use Rattle.words.proofs.Ones.{ones-count}
 use Rattle.differential.specs.Constant.{state, is000, is11, quiet, constantFitting, isChain, chains, chainP}
-use Rattle.differential.specs.Logarithm.{highestOne}
+use Rattle.differential.specs.Logarithm.{highestOne, logarithm}
 use Rattle.differential.specs.Weight.{chainCost}
 use Rattle.differential.proofs.ChainLaws.{quiet-le}
 use Rattle.differential.proofs.Logarithms.{highestOne-low, highestOne-high}
 use Rattle.differential.proofs.Powers.{exponent-lt}
 use Rattle.differential.proofs.Product.{chainP-pos}
-use Rattle.differential.proofs.Weights.{costs-le}
+use Rattle.differential.proofs.Weights.{cost-is, cost-least, costs-le}
 use Rattle.chains.specs.Ends.{Not000, ChainEnds}
 
 -- ---- the words
@@ -100,6 +100,16 @@ module _ (u v w : ℕ) (h : Not000 u v w) where
 pub chain-some : (u v i : ℕ) → isChain u v i ≡ true → 0 < quiet u v i
 unfolding isChain
 chain-some u v i e = ltb-true 0 (quiet u v i) (and-eq-true-iff (is11 (state u v i)) (ltb 0 (quiet u v i)) .0 e .1)
+
+-- the cost of a chain, as the code computes it: rules for `search`
+module _ (a u v i : ℕ) {k whole known p : ℕ}
+    (run : k ≡ quiet u v i) (e : whole ≡ 16 * k) (f : known ≡ logarithm p) (g : p ≡ chainP a u v k i) where
+  pub chain-least : 0 < chainP a u v (quiet u v i) i → known ≤ whole
+  chain-least some = cost-least a u v k i e f g (rw run some)
+
+  pub chain-costs : isChain u v i ≡ true → whole - known ≡ chainCost a u v i
+  unfolding chainCost
+  chain-costs chain = cost-is a u v k i e f g ∙ rw (chain, run)
 
 -- ---- the chains from the highest down
 

@@ -1,7 +1,6 @@
 -- A chain's logarithm is at most its length in sixteenths, so that the difference does not cut off.
 use borrow.Author.Needs.{needs}
-use Rattle.differential.specs.Weight.{chainCost}
-use Rattle.differential.proofs.Weights.{costing}
+use Rattle.chains.proofs.Ends.{chain-least, chain-costs}
 use Rattle.chains.proofs.chain_cost.Statement.{statement}
 use Rattle.chains.proofs.chain_cost.Tie as tie
 
@@ -18,13 +17,10 @@ logarithm-requires : tie.Need-logarithm-requires
 logarithm-requires c κs = rw (c .chain-number .ensures, c .before .before .chain-length .ensures .0) (c .before .before .before .pre .3)
 
 sub-t10 : tie.Need-sub-t10
-sub-t10 c =
-    let some = rw (← c .before .before .before .before .before .chain-length .ensures .0) at (c .before .before .before .before .before .before .pre .3) in
-    search costing
+sub-t10 c = search chain-least depth 8
 
 returns : tie.Need-returns
-unfolding chainCost
-returns c = rw (c .before .before .before .before .before .before .pre .0, ← c .before .before .before .before .before .chain-length .ensures .0) (search costing)
+returns c = search chain-costs depth 8
 
 pub chain-cost-spec : {M : Type 1} → statement M
 chain-cost-spec =
