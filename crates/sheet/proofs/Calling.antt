@@ -1,95 +1,84 @@
--- What a call on a sheet comes to, from what reading answered: laws for the calls of other crates, whatever they answer.
+-- What a call on a sheet comes to, from what reading answered: laws for the calls of other crates, and rules for `search`.
 use Prim.Native.Nat.{ℕ, _<_, _≤_}
-use mathlib.Core.Path.{_≡_, sym, ap, _∙_}
-use mathlib.Core.Bool.{true, false}
+use mathlib.Core.Path.{_≡_, sym, ap, subst, _∙_}
+use mathlib.Core.Bool.{Bool, true, false, cond}
 use mathlib.Core.List.{List, [], _++_, append-nil}
 use borrow.Author.Tests.{ltb-true, leb-true, lt-ltb, le-ltb, le-leb, lt-leb}
+use lib.Dec.{ltb}
+use lib.ListN.{length}
+use Rattle.buffers.specs.Overwrite.{overwrite}
 use Rattle.trail.specs.Trail.{Trail}
 use Rattle.trail.specs.Runs.{isStart}
 use Rattle.sheet.specs.Asking.{Question, allYes, Verdict, verdict}
 use Rattle.sheet.specs.Asking.Verdict.{accepted, refused}
 use Rattle.sheet.specs.Fields.{headerOf}
 use Rattle.sheet.specs.Questions.{questions, lineNumberQuestions, roomQuestions, startQuestions}
-use Rattle.sheet.specs.Answers.{readingMeans, refusalOf, IsAccepted}
+use Rattle.sheet.specs.Answers.{readingMeans, refusalOf, answerOf, IsAccepted}
+use Rattle.sheet.specs.Calls.{writing}
 use Rattle.sheet.specs.Facts.{SheetRead}
+use Rattle.sheet.specs.declared.Answer.{Answer}
 use Rattle.sheet.specs.declared.Header.{Header}
 use Rattle.sheet.specs.declared.Refusal.{Refusal}
 use Rattle.sheet.specs.declared.Mode.the-variants.{Read}
 use Rattle.sheet.specs.declared.Reading.{Reading}
 use Rattle.sheet.specs.declared.Reading.the-variants.{Accepted, Refused}
-use Rattle.sheet.proofs.Asking.{go-on, stop, yes-first, yes-verdict, comes}
+use Rattle.sheet.proofs.Asking.{go-on, stop, yes-first, verdict-yes, yes-verdict, no-verdict, comes}
 use Rattle.sheet.proofs.Asking.Comes.{done, yes, no}
 use Rattle.sheet.proofs.Answering.{asked}
 use Rattle.sheet.proofs.WellFormed.{has-read}
 
+-- ---- what reading answered. `search` takes an answer from the context, and the parts in it, so each law asks for these two facts.
+
 module _ (s : List ℕ) (r : Reading) (read : readingMeans r ≡ verdict (questions Read s) (headerOf s)) where
-  -- a sheet that reading refuses, the call refuses with the same number and place
-  pub refused-by-reading : {A : Type 0} (own : List Question) (a : A) (v : Refusal) → r ≡ Refused v
-      → refused (refusalOf r .number) (refusalOf r .place) ≡ verdict (questions Read s ++ own) a
-  refused-by-reading own a v e =
-      ap (λ x. refused (refusalOf x .number) (refusalOf x .place)) e
+  -- a sheet that reading refuses, the call refuses with the same number and place, whatever else it asks
+  pub refused-by-reading : {A : Type 0} (own : List Question) (a : A) (v w : Refusal) → r ≡ Refused v → w ≡ refusalOf r
+      → refused (w .number) (w .place) ≡ verdict (questions Read s ++ own) a
+  refused-by-reading own a v w e d =
+      ap (λ (x : Refusal). refused (x .number) (x .place)) (d ∙ ap refusalOf e)
       ∙ sym (stop (questions Read s) own (headerOf s) a (sym read ∙ ap readingMeans e))
 
   -- the same of a call with no questions of its own
-  pub refused-alone : {A : Type 0} (a : A) (v : Refusal) → r ≡ Refused v
-      → refused (refusalOf r .number) (refusalOf r .place) ≡ verdict (questions Read s) a
-  refused-alone a v e = refused-by-reading [] a v e ∙ ap (λ qs. verdict qs a) (append-nil (questions Read s))
+  pub refused-alone : {A : Type 0} (a : A) (v w : Refusal) → r ≡ Refused v → w ≡ refusalOf r
+      → refused (w .number) (w .place) ≡ verdict (questions Read s) a
+  refused-alone a v w e d = refused-by-reading [] a v w e d ∙ ap (λ qs. verdict qs a) (append-nil (questions Read s))
 
-  -- a sheet that reading accepts was read, with the parts that reading gave
-  pub was-read : (h : Header) → r ≡ Accepted h → SheetRead s h
-  was-read h e = let yes = asked (questions Read s) (headerOf s) r h read e in has-read s h (yes .0) (yes .1)
+  module _ (h : Header) (accepts : r ≡ Accepted h) where
+    -- what reading settles where it accepts
+    pub was-read : SheetRead s h
+    was-read = let yes = asked (questions Read s) (headerOf s) r h read accepts in has-read s h (yes .0) (yes .1)
 
--- of an accepted sheet the call's own questions are asked
-pub own-questions : {A : Type 0} (s : List ℕ) (own : List Question) (a : A) {v : Verdict A}
-    → IsAccepted s → v ≡ verdict own a → v ≡ verdict (questions Read s ++ own) a
-own-questions s own a accepts e = e ∙ sym (go-on (questions Read s) own a accepts)
+    -- the call's own questions are asked,
+    pub asks-own : {A : Type 0} (own : List Question) (a : A) {v : Verdict A} → v ≡ verdict own a → v ≡ verdict (questions Read s ++ own) a
+    asks-own own a e = e ∙ sym (go-on (questions Read s) own a (was-read .accepted))
 
--- ---- what the calls' own questions say
+    -- and a call that has none is answered
+    pub asks-none : {A : Type 0} (a : A) {b : A} → b ≡ a → accepted b ≡ verdict (questions Read s) a
+    asks-none a e = ap accepted e ∙ sym (verdict-yes (questions Read s) a (was-read .accepted))
 
-pub line-number : (h : Header) (k : ℕ) → allYes (lineNumberQuestions h k) ≡ true → k < h .lines
-unfolding lineNumberQuestions
-line-number h k e = ltb-true _ _ (yes-first _ _ _ _ e)
+    -- the line number is held against the parts that reading gave
+    pub line-past : (k : ℕ) → h .lines ≤ k → ltb k (headerOf s .lines) ≡ false
+    line-past k l = subst (λ (g : Header). ltb k (g .lines) ≡ false) (sym (was-read .parts)) (le-ltb k (h .lines) l)
 
-pub enough-room : (need room : ℕ) → allYes (roomQuestions need room) ≡ true → need ≤ room
-unfolding roomQuestions
-enough-room need room e = leb-true _ _ (yes-first _ _ _ _ e)
+    pub line-there : (k : ℕ) → k < h .lines → ltb k (headerOf s .lines) ≡ true
+    line-there k l = subst (λ (g : Header). ltb k (g .lines) ≡ true) (sym (was-read .parts)) (lt-ltb k (h .lines) l)
 
-pub is-start : (t : Trail) (x : List ℕ) → allYes (startQuestions t x) ≡ true → isStart t x ≡ true
-unfolding startQuestions
-is-start t x e = yes-first _ _ _ _ e
+-- an answer that a call made
+pub given : {A : Type 0} {a b : A} {v : Verdict A} → b ≡ a → accepted a ≡ v → accepted b ≡ v
+given e d = ap accepted e ∙ d
 
--- ---- what they refuse, and when they pass
+pub ruleset calling =
+    (refused-by-reading, refused-alone, was-read, asks-own, asks-none, line-past, line-there, given, comes, yes, no, done, le-leb, lt-leb)
 
-module _ {A : Type 0} (a : A) where
-  pub no-line : (h : Header) (k : ℕ) → h .lines ≤ k → refused 17 0 ≡ verdict (lineNumberQuestions h k) a
-  unfolding lineNumberQuestions
-  no-line h k l = comes (no (le-ltb k (h .lines) l))
+-- ---- what a call that writes leaves
 
-  pub some-line : (h : Header) (k : ℕ) → k < h .lines → accepted a ≡ verdict (lineNumberQuestions h k) a
-  unfolding lineNumberQuestions
-  some-line h k l = comes (yes (lt-ltb k (h .lines) l) done)
+module _ {A : Type 0} (asks : List Question) (values out : List A) where
+  pub kept : {n p : ℕ} → refused n p ≡ verdict asks (length values)
+      → (refused n p ≡ writing asks values out .answer) × (out ≡ writing asks values out .buffer)
+  unfolding writing
+  kept e = (e, ap (λ t. cond t (overwrite 0 values out) out) (sym (no-verdict asks (length values) (sym e))))
 
-  pub no-room : (need room : ℕ) → room < need → refused 18 0 ≡ verdict (roomQuestions need room) a
-  unfolding roomQuestions
-  no-room need room l = comes (no (lt-leb need room l))
-
-  pub some-room : (need room : ℕ) → need ≤ room → accepted a ≡ verdict (roomQuestions need room) a
-  unfolding roomQuestions
-  some-room need room l = comes (yes (le-leb need room l) done)
-
-  pub no-start : (t : Trail) (x : List ℕ) → isStart t x ≡ false → refused 19 0 ≡ verdict (startQuestions t x) a
-  unfolding startQuestions
-  no-start t x e = comes (no e)
-
-  pub some-start : (t : Trail) (x : List ℕ) → isStart t x ≡ true → accepted a ≡ verdict (startQuestions t x) a
-  unfolding startQuestions
-  some-start t x e = comes (yes e done)
-
-  -- the line number is asked first, and what else a call asks only of a line that is there
-  pub no-line-first : (h : Header) (k : ℕ) (more : List Question) → h .lines ≤ k → refused 17 0 ≡ verdict (lineNumberQuestions h k ++ more) a
-  no-line-first h k more l = sym (stop (lineNumberQuestions h k) more a a (sym (no-line h k l)))
-
-  pub some-line-first : (h : Header) (k : ℕ) (more : List Question) {v : Verdict A} → k < h .lines → v ≡ verdict more a
-      → v ≡ verdict (lineNumberQuestions h k ++ more) a
-  some-line-first h k more l e =
-      e ∙ sym (go-on (lineNumberQuestions h k) more a (yes-verdict (lineNumberQuestions h k) a a (sym (some-line h k l)) .0))
+  pub written : {n : ℕ} {after : List A} → accepted n ≡ verdict asks (length values) → after ≡ overwrite 0 values out
+      → (accepted n ≡ writing asks values out .answer) × (after ≡ writing asks values out .buffer)
+  unfolding writing
+  written {n} e d =
+      (e, d ∙ ap (λ t. cond t (overwrite 0 values out) out) (sym (yes-verdict asks (length values) n (sym e) .0)))

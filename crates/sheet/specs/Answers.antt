@@ -8,6 +8,7 @@ use Rattle.sheet.specs.Asking.Verdict.{accepted, refused}
 use Rattle.sheet.specs.Questions.{questions}
 use Rattle.sheet.specs.declared.Header.{Header}
 use Rattle.sheet.specs.declared.Refusal.{Refusal}
+use Rattle.sheet.specs.declared.Answer.{Answer}
 use Rattle.sheet.specs.declared.Mode.the-variants.{Read}
 use Rattle.sheet.specs.declared.Reading.{Reading}
 use Rattle.sheet.specs.declared.Reading.the-variants.{Accepted, Refused}
@@ -20,6 +21,11 @@ readingMeans (Refused r) = refused (r .number) (r .place)
 abbrev pub refusalOf : Reading → Refusal
 refusalOf (Accepted h) = record { number = 0; place = 0 }
 refusalOf (Refused r) = r
+
+-- The struct that crosses to C. A refusal returns number and place, with count 0; an acceptance has 0 and 0, and its count.
+abbrev pub answerOf : Verdict ℕ → Answer
+answerOf (accepted n) = record { number = 0; place = 0; count = n }
+answerOf (refused n p) = record { number = n; place = p; count = 0 }
 
 -- an accepted sheet is one with yes to all of questions 1 to 16
 abbrev pub IsAccepted : List ℕ → Type 0

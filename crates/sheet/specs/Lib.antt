@@ -3,5 +3,6 @@ pub mod Fields
 pub mod Checks
 pub mod Questions
 pub mod Answers
+pub mod Calls
 pub mod Facts
 pub mod Example

@@ -136,13 +136,13 @@ questions mode s = lengthQuestions s ++ (checkQuestions mode s (headerOf s) ++ l
 -- Calls on a sheet go through all of these, then such of the following as concern what the call takes, place 0.
 
 -- Is the line number below L? 17
-unfoldable pub lineNumberQuestions : Header → ℕ → List Question
+abbrev pub lineNumberQuestions : Header → ℕ → List Question
 lineNumberQuestions h k = ask (ltb k (h .lines)) 17 0 ∷ []
 
 -- Is the output buffer long enough for this very answer? 18
-unfoldable pub roomQuestions : ℕ → ℕ → List Question
+abbrev pub roomQuestions : ℕ → ℕ → List Question
 roomQuestions need room = ask (leb need room) 18 0 ∷ []
 
 -- Are there exactly m starting words, each below 2 ^ n? 19
-unfoldable pub startQuestions : Trail → List ℕ → List Question
+abbrev pub startQuestions : Trail → List ℕ → List Question
 startQuestions t x = ask (isStart t x) 19 0 ∷ []

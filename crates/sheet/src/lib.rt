@@ -1,7 +1,7 @@
 // Sheets: what the format says, the answers of reading and sealing, and a refusal in them (document 01, "The sheet").
 ghost use mathlib.Core.Path.{_≡_};
-ghost use Rattle.sheet.specs.Asking.Verdict.{refused as Verdict·refused};
-ghost use Rattle.sheet.specs.Answers.{readingMeans, refusalOf};
+ghost use Rattle.sheet.specs.Asking.Verdict.{accepted as Verdict·accepted, refused as Verdict·refused};
+ghost use Rattle.sheet.specs.Answers.{readingMeans, refusalOf, answerOf};
 
 // The parts of a sheet: its blocks, the width n, the input count m and the line count L.
 pub struct Header {
@@ -25,7 +25,15 @@ pub struct Record {
 // The number of the first question whose answer is no, and its place.
 pub struct Refusal {
     pub number: u32,
-    pub place: usize,
+    pub place: u64,
+}
+
+// What a call answers to C, which takes no enum: the number and place of a refusal, with count 0; or 0, 0 and what the call counts.
+#[repr(C)]
+pub struct Answer {
+    pub number: u32,
+    pub place: u64,
+    pub count: u64,
 }
 
 // What reading, sealing and each of their stages answer.
@@ -57,5 +65,32 @@ pub fn refusal_of(reading: Reading) -> Refusal
 pub fn refused(number: u32, place: usize) -> Reading
     ensures { λ r. ⌜ readingMeans r ≡ Verdict·refused number place ⌝ }
 {
-    Reading::Refused(Refusal { number, place })
+    Reading::Refused(Refusal {
+        number,
+        place: place as u64,
+    })
+}
+
+impl Answer {
+    // A call that was made, and what it counts.
+    pub fn counted(count: usize) -> Self
+        ensures { λ r. ⌜ r ≡ answerOf (Verdict·accepted count) ⌝ }
+    {
+        Self {
+            number: 0,
+            place: 0,
+            count: count as u64,
+        }
+    }
+
+    // A call that was refused.
+    pub fn refusing(refusal: Refusal) -> Self
+        ensures { λ r. ⌜ r ≡ answerOf (Verdict·refused (refusal .number) (refusal .place)) ⌝ }
+    {
+        Self {
+            number: refusal.number,
+            place: refusal.place,
+            count: 0,
+        }
+    }
 }

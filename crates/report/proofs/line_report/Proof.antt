@@ -1,12 +1,6 @@
 -- `line_report` reads, asks for the line, and reports it.
-use Prim.Native.Nat.{_≤_, _<_}
-use mathlib.Core.Path.{sym, ap, _∙_, subst}
 use borrow.Author.Needs.{needs}
-use Rattle.sheet.specs.declared.Header.{Header}
-use Rattle.sheet.specs.declared.Mode.the-variants.{Read as reading}
-use Rattle.sheet.specs.Asking.Verdict.{accepted}
-use Rattle.sheet.specs.Fields.{headerOf}
-use Rattle.sheet.proofs.Calling.{refused-by-reading, was-read, own-questions, no-line, some-line}
+use Rattle.sheet.proofs.Calling.{calling}
 use Rattle.report.proofs.line_report.Tie as tie
 use Rattle.report.proofs.line_report.Statement.{statement}
 
@@ -23,27 +17,16 @@ refusal-of-requires : tie.Need-refusal-of-requires
 refusal-of-requires c κs = search needs
 
 returns : tie.Need-returns
-returns c = rw (c .refusal-of .ensures) (refused-by-reading _ _ (c .before .before .before .read .ensures) _ _ _ (c .before .enum-told .given .1))
+returns c = search calling depth 12
 
 returns-2 : tie.Need-returns-2
-returns-2 c =
-    let read = was-read _ _ (c .before .before .before .before .before .read .ensures) _ (c .before .before .before .reading .given .1) in
-    let s = c .before .before .before .before .before .before .before .args .sheet .now in
-    let k = c .before .before .before .before .before .before .before .args .k in
-    own-questions _ _ _ (read .accepted) (no-line _ (headerOf s) k (subst (λ (h : Header). h .lines ≤ k) (sym (read .parts)) (c .if1 .taken)))
+returns-2 c = search calling depth 12
 
 report-at-requires : tie.Need-report-at-requires
-report-at-requires c κs =
-    let read = was-read _ _ (c .before .before .before .before .before .read .ensures) _ (c .before .before .before .reading .given .1) in
-    (read, c .if1 .left)
+report-at-requires c κs = search calling depth 12
 
 returns-3 : tie.Need-returns-3
-returns-3 c =
-    let read = was-read _ _ (c .before .before .before .before .before .before .read .ensures) _ (c .before .before .before .before .reading .given .1) in
-    let s = c .before .before .before .before .before .before .before .before .args .sheet .now in
-    let k = c .before .before .before .before .before .before .before .before .args .k in
-    ap accepted (c .report-at .ensures)
-    ∙ own-questions _ _ _ (read .accepted) (some-line _ (headerOf s) k (subst (λ (h : Header). k < h .lines) (sym (read .parts)) (c .before .if1 .left)))
+returns-3 c = search calling depth 12
 
 pub line-report-spec : {M : Type 1} → statement M
 line-report-spec =
