@@ -1,18 +1,13 @@
--- How code appends to a lent buffer: what a writer has written, and what a loop of writes has left to write. Assumes nothing.
+-- How code appends to a lent buffer: runs of writes, and what a loop of writes has left to write. Assumes nothing.
 use mathlib.Core.Path.{_≡_, refl, sym, ap, _∙_}
 use mathlib.Core.List.{List, [], _∷_, _++_}
 use Prim.Native.Nat.{ℕ, _+_, _≤_, _<_}
 use native.Mathlib.Omega.{arith}
 use lib.ListN.{length, set, length-append}
-use Rattle.buffers.specs.Overwrite.{overwrite}
+use Rattle.buffers.specs.Overwrite.{overwrite, Wrote}
 use Rattle.buffers.proofs.Overwrite.{overwrite-nil, overwrite-length, overwrite-twice, set-overwrite}
 
 module _ {A : Type 0} where
-  -- From the position `at` on, new was written over l, which made it m; p is the next position.
-  pub record Wrote (at : ℕ) (new l : List A) (p : ℕ) (m : List A) : Type 0 where
-    pub next : p ≡ at + length new
-    pub now-is : m ≡ overwrite at new l
-
   -- All of `all` is to be written over l from `at` on, and there is room: l is now m, and rest is still to be written from p on.
   pub record Left (at : ℕ) (all l : List A) (p : ℕ) (rest m : List A) : Type 0 where
     pub room : at + length all ≤ length l

@@ -7,10 +7,8 @@ use mathlib.Core.List.{List, [], _∷_, _++_, append-nil}
 use borrow.Author.Tests.{lt-ltb, le-ltb}
 use lib.Dec.{ltb}
 use lib.IntN.{ℤ}
-use lib.ListN.{length}
 use Rattle.words.specs.Words.{carryInto}
 use Rattle.words.specs.Below.{concat}
-use Rattle.buffers.specs.Overwrite.{overwrite}
 use Rattle.trail.specs.Kinds.{kindOf}
 use Rattle.cnf.specs.Formulas.{numbers}
 use Rattle.cnf.specs.Gates.{literals, gate}
@@ -73,7 +71,3 @@ module _ (r : LineRun) (i : ℕ) where
   output-tied there j table {output} is e =
       ap (λ (ls : List ℤ). numbers (tableGate (ls ++ (output ∷ [])) table)) (there .are)
       ∙ ap numbers (sym (table-gate (functionOf j) (inputsIn r i) output table is) ∙ ap (gate (functionOf j) (inputsIn r i)) e)
-
--- what a writer's contract says
-abbrev pub Puts : ℕ → List ℤ → ℕ → List ℤ → List ℤ → Type 0
-Puts at out next after new = (next ≡ at + length new) × (after ≡ overwrite at new out)

@@ -1,8 +1,7 @@
 // The clauses of one bit of a run.
-ghost use mathlib.Core.Path.{_≡_};
 ghost use Prim.Native.Nat.{_+_, _<_, _≤_};
 ghost use lib.ListN.{length};
-ghost use Rattle.buffers.specs.Overwrite.{overwrite};
+ghost use Rattle.buffers.specs.Overwrite.{Wrote};
 ghost use Rattle.cnf.specs.Formulas.{numbers};
 ghost use Rattle.clause_writer.specs.Writing.{ProperRun, clausesOfBit, CanNegate, gathered, Gathers, tiedBy};
 use crate::LineRun;
@@ -17,8 +16,7 @@ use cnf::put_gate;
 // Writes the clauses of bit i from a position on, those of one output after the other. Returns the next position.
 pub(crate) fn put_bit(out: &mut [i32], at: usize, run: LineRun, i: u32) -> usize
     requires { ⌜ ProperRun run × (i < run .width) × (at + length (numbers (clausesOfBit run i)) ≤ length (now out)) ⌝ }
-    ensures { λ r. ⌜ (r ≡ at + length (numbers (clausesOfBit run i)))
-        × (now (out .exit) ≡ overwrite at (numbers (clausesOfBit run i)) (now (out .entry))) ⌝ }
+    ensures { λ r. ⌜ Wrote at (numbers (clausesOfBit run i)) (now (out .entry)) r (now (out .exit)) ⌝ }
 {
     let inputs = gather(run, i);
     let outputs = output_count(run, i);
@@ -37,8 +35,7 @@ pub(crate) fn put_bit(out: &mut [i32], at: usize, run: LineRun, i: u32) -> usize
 fn put_output(out: &mut [i32], at: usize, inputs: Inputs, output: i32, table: u32) -> usize
     requires { ⌜ Gathers 3 (gathered inputs) inputs × CanNegate output
         × (at + length (tiedBy inputs output table) ≤ length (now out)) ⌝ }
-    ensures { λ r. ⌜ (r ≡ at + length (tiedBy inputs output table))
-        × (now (out .exit) ≡ overwrite at (tiedBy inputs output table) (now (out .entry))) ⌝ }
+    ensures { λ r. ⌜ Wrote at (tiedBy inputs output table) (now (out .entry)) r (now (out .exit)) ⌝ }
 {
     let all = with(inputs, output);
     let lits = all.lits;

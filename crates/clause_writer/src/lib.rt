@@ -6,10 +6,9 @@ mod literals;
 mod outputs;
 mod tables;
 
-ghost use mathlib.Core.Path.{_≡_};
 ghost use Prim.Native.Nat.{_+_, _≤_};
 ghost use lib.ListN.{length};
-ghost use Rattle.buffers.specs.Overwrite.{overwrite};
+ghost use Rattle.buffers.specs.Overwrite.{Wrote};
 ghost use Rattle.cnf.specs.Formulas.{numbers};
 ghost use Rattle.clause_writer.specs.Writing.{ProperRun, clausesOfRun};
 use crate::bits::put_bit;
@@ -30,8 +29,7 @@ pub struct LineRun {
 // Writes a run's clauses from a position on, bits upward. Returns the next position.
 pub fn put_run(out: &mut [i32], at: usize, run: LineRun) -> usize
     requires { ⌜ ProperRun run × (at + length (numbers (clausesOfRun run)) ≤ length (now out)) ⌝ }
-    ensures { λ r. ⌜ (r ≡ at + length (numbers (clausesOfRun run)))
-        × (now (out .exit) ≡ overwrite at (numbers (clausesOfRun run)) (now (out .entry))) ⌝ }
+    ensures { λ r. ⌜ Wrote at (numbers (clausesOfRun run)) (now (out .entry)) r (now (out .exit)) ⌝ }
 {
     let n = run.width;
     let mut next = at;

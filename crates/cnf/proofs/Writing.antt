@@ -13,7 +13,8 @@ use lib.IntN.{ℤ, pos, negℤ}
 use lib.Pow.{pow-mono}
 use Rattle.words.specs.Words.{bit}
 use Rattle.words.specs.Below.{concat}
-use Rattle.buffers.proofs.Appending.{Wrote, Left, left-start, left-take, left-fits, left-done, wrote-none, wrote-set, wrote-append}
+use Rattle.buffers.specs.Overwrite.{Wrote}
+use Rattle.buffers.proofs.Appending.{Left, left-start, left-take, left-fits, left-done, wrote-none, wrote-set, wrote-append}
 use Rattle.cnf.specs.Formulas.{numbers}
 use Rattle.cnf.specs.Gates.{clauseOf}
 use Rattle.cnf.proofs.Clauses.{numbers-append}

@@ -7,7 +7,7 @@ ghost use lib.ListN.{length};
 ghost use lib.IntN.{negℤ};
 ghost use lib.Signed.{mag};
 ghost use Rattle.words.specs.Words.{value, bit as Words·bit};
-ghost use Rattle.buffers.specs.Overwrite.{overwrite};
+ghost use Rattle.buffers.specs.Overwrite.{Wrote};
 ghost use Rattle.cnf.specs.Formulas.{numbers};
 ghost use Rattle.cnf.specs.Gates.{clauseOf};
 ghost use Rattle.cnf.specs.Tables.{tableGate, Small};
@@ -18,8 +18,7 @@ use words::bit;
 pub fn put_gate(out: &mut [i32], at: usize, lits: &[i32], table: u32) -> usize
     requires { ⌜ (1 ≤ length (now lits)) × (length (now lits) ≤ 4) × Small (now lits)
         × (at + length (numbers (tableGate (now lits) table)) ≤ length (now out)) ⌝ }
-    ensures { λ r. ⌜ (r ≡ at + length (numbers (tableGate (now (lits .entry)) table)))
-        × (now (out .exit) ≡ overwrite at (numbers (tableGate (now (lits .entry)) table)) (now (out .entry))) ⌝ }
+    ensures { λ r. ⌜ Wrote at (numbers (tableGate (now (lits .entry)) table)) (now (out .entry)) r (now (out .exit)) ⌝ }
 {
     let count = lits.len();
     match count {
@@ -34,8 +33,7 @@ pub fn put_gate(out: &mut [i32], at: usize, lits: &[i32], table: u32) -> usize
 fn put_rows(out: &mut [i32], at: usize, lits: &[i32], count: usize, table: u32) -> usize
     requires { ⌜ (length (now lits) ≡ count) × (1 ≤ count) × (count ≤ 4) × Small (now lits)
         × (at + length (numbers (tableGate (now lits) table)) ≤ length (now out)) ⌝ }
-    ensures { λ r. ⌜ (r ≡ at + length (numbers (tableGate (now (lits .entry)) table)))
-        × (now (out .exit) ≡ overwrite at (numbers (tableGate (now (lits .entry)) table)) (now (out .entry))) ⌝ }
+    ensures { λ r. ⌜ Wrote at (numbers (tableGate (now (lits .entry)) table)) (now (out .entry)) r (now (out .exit)) ⌝ }
 {
     let rows = 1u32 << (count - 1);
     let mut next = at;
@@ -64,8 +62,7 @@ fn wrong_row(table: u32, inputs: u32) -> u32
 fn put_clause(out: &mut [i32], at: usize, lits: &[i32], count: usize, row: u32) -> usize
     requires { ⌜ (length (now lits) ≡ count) × (count ≤ 4) × Small (now lits)
         × (at + length (numbers (clauseOf (now lits) row ∷ [])) ≤ length (now out)) ⌝ }
-    ensures { λ r. ⌜ (r ≡ at + length (numbers (clauseOf (now (lits .entry)) row ∷ [])))
-        × (now (out .exit) ≡ overwrite at (numbers (clauseOf (now (lits .entry)) row ∷ [])) (now (out .entry))) ⌝ }
+    ensures { λ r. ⌜ Wrote at (numbers (clauseOf (now (lits .entry)) row ∷ [])) (now (out .entry)) r (now (out .exit)) ⌝ }
 {
     let mut i = 0;
     while i < count {

@@ -55,11 +55,16 @@ loop-again c =
     let more : c .before .loop .i < c .before .before .args .k = search needs in
     (search needs, rw (← add-assoc) (left-take (next-byte _ _ _ more) (c .before .loop .inv .1) (wrote-set here _ _ room)))
 
+add-result : tie.Need-add-result Inv-loop μ-loop
+add-result c = search needs
+
 same-length : tie.Need-same-length Inv-loop μ-loop
 same-length c = search needs
 
 returns : tie.Need-returns Inv-loop μ-loop
-returns c = left-done (no-byte _ _ _ (search needs)) (c .before .loop .inv .1) .now-is
+returns c =
+    let all : c .before .loop .i ≡ c .before .before .args .k = search needs in
+    rw all at (left-done (no-byte _ _ _ (search needs)) (c .before .loop .inv .1))
 
 pub put-number-spec : {M : Type 1} → statement M
 put-number-spec =
@@ -74,5 +79,6 @@ put-number-spec =
     add-i
     loop-less
     loop-again
+    add-result
     same-length
     returns)

@@ -5,7 +5,7 @@ use mathlib.Core.Path.{_≡_, refl, _∙_}
 use denote.Ref.{now}
 use lib.ListN.{length}
 use Rattle.words.specs.Below.{concat}
-use Rattle.buffers.proofs.Appending.{Wrote}
+use Rattle.buffers.specs.Overwrite.{Wrote}
 use Rattle.cnf.specs.Formulas.{numbers}
 use Rattle.cnf.proofs.Writing.{rows-start, row-fits, rows-next}
 use Rattle.clause_lists.specs.Lists.{runClauses}
@@ -47,7 +47,7 @@ loop-again c =
     let a = start .args in
     let h = c .before .before .before .before .loop in
     let put = c .before .put-bit in
-    (omega arith, put .kept .0 ∙ h .inv .1, rows-next (clausesOfBit (a .run)) (a .run .width) (a .at) (now (a .out)) (start .pre .1) (h .i) (h .next) _ (h .out) _ (omega arith) (h .inv .2) (record { next = put .ensures .0; now-is = put .ensures .1 }))
+    (omega arith, put .kept .0 ∙ h .inv .1, rows-next (clausesOfBit (a .run)) (a .run .width) (a .at) (now (a .out)) (start .pre .1) (h .i) (h .next) _ (h .out) _ (omega arith) (h .inv .2) (put .ensures))
 
 same-length : tie.Need-same-length Inv-loop μ-loop
 same-length c = c .before .loop .inv .1
@@ -58,8 +58,7 @@ returns c =
     let a = c .before .before .args in
     let h = c .before .loop in
     let e : h .i ≡ a .run .width = omega arith in
-    let w : Wrote (a .at) (numbers (concat (a .run .width) (clausesOfBit (a .run)))) (now (a .out)) (h .next) (h .out) = rw e at (h .inv .2) in
-    (w .next, w .now-is)
+    rw e at (h .inv .2)
 
 pub put-run-spec : {M : Type 1} → statement M
 put-run-spec =

@@ -4,13 +4,13 @@ use mathlib.Core.Path.{_≡_, sym, ap, _∙_}
 use mathlib.Core.Bool.{Bool, cond}
 use mathlib.Core.List.{[]}
 use Prim.Native.Nat.{ℕ, _+_, _-_, _≤_}
-use lib.ListN.{length, getD, set, length-set}
+use lib.ListN.{length, getD, length-set}
 use lib.IntN.{ℤ, pos, negℤ}
 use mir.Syntax.{w32}
 use mir.Val.{toZ, ofZ}
 use denote.Ref.{now}
 use Rattle.words.specs.Words.{bit}
-use Rattle.buffers.proofs.Appending.{Wrote, Left}
+use Rattle.buffers.proofs.Appending.{Left}
 use Rattle.cnf.proofs.Signs.{same, stored}
 use Rattle.cnf.proofs.Writing.{clauseFrom, length-numbers-clause, put-start, put-next, put-end}
 use Rattle.cnf.proofs.put_clause.Statement.{statement}
@@ -103,9 +103,7 @@ returns c =
     let a = c .before .before .args in
     let h = c .before .loop in
     let e : h .i ≡ a .count = omega arith in
-    let w : Wrote (a .at) (clauseFrom (now (a .lits)) (a .row) 0) (now (a .out)) (a .at + a .count + 1) (set (h .out) (a .at + a .count) (pos 0)) =
-    rw e at (put-end (now (a .lits)) (a .row) (a .at) _ _ _ (h .i) (omega arith) (h .inv .2)) in
-    (w .next, w .now-is)
+    rw e at (put-end (now (a .lits)) (a .row) (a .at) _ _ _ (h .i) (omega arith) (h .inv .2))
 
 pub put-clause-spec : {M : Type 1} → statement M
 put-clause-spec =

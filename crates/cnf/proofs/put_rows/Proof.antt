@@ -7,7 +7,7 @@ use lib.ListN.{length}
 use lib.IntN.{ℤ}
 use denote.Ref.{now}
 use Rattle.words.specs.Below.{concat}
-use Rattle.buffers.proofs.Appending.{Wrote}
+use Rattle.buffers.specs.Overwrite.{Wrote}
 use Rattle.cnf.specs.Formulas.{numbers}
 use Rattle.cnf.specs.Gates.{clauseOf}
 use Rattle.cnf.specs.Tables.{tableGate}
@@ -84,9 +84,9 @@ loop-again c =
     let a = start .args in
     let h = c .before .before .before .before .before .loop in
     let put = c .before .put-clause in
-    let wrote : Wrote (h .next) (numbers (wrongClause (now (a .lits)) (a .table) (h .inputs))) (h .out) (put .result) (put .last .0) =
+    let wrote =
     subst (λ (row : ℕ). Wrote (h .next) (numbers (clauseOf (now (a .lits)) row ∷ [])) (h .out) (put .result) (put .last .0))
-    (c .before .before .wrong-row .ensures) (record { next = put .ensures .0; now-is = put .ensures .1 }) in (
+    (c .before .before .wrong-row .ensures) (put .ensures) in (
       omega arith,
       h .inv .1,
       h .inv .2,
@@ -105,9 +105,7 @@ returns c =
     let a = start .args in
     let h = c .before .loop in
     let e : h .inputs ≡ 2 ^ (a .count - 1) = omega arith in
-    let w : Wrote (a .at) (numbers (tableGate (now (a .lits)) (a .table))) (now (a .out)) (h .next) (h .out) =
-    rw (pairs (now (a .lits)) (a .count) (a .table) (start .pre .0) (start .pre .1)) (rw e at (h .inv .4)) in
-    (w .next, w .now-is)
+    rw (pairs (now (a .lits)) (a .count) (a .table) (start .pre .0) (start .pre .1)) (rw e at (h .inv .4))
 
 pub put-rows-spec : {M : Type 1} → statement M
 put-rows-spec =

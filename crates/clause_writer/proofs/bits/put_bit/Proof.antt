@@ -8,14 +8,14 @@ use denote.Ref.{now}
 use lib.IntN.{ℤ}
 use lib.ListN.{length}
 use Rattle.words.specs.Below.{concat}
-use Rattle.buffers.proofs.Appending.{Wrote}
+use Rattle.buffers.specs.Overwrite.{Wrote}
 use Rattle.cnf.specs.Formulas.{numbers}
 use Rattle.cnf.proofs.Writing.{rows-start, row-fits, rows-next}
 use Rattle.clause_writer.specs.declared.LineRun.{LineRun}
 use Rattle.clause_writer.specs.Writing.{outputsOf, clausesOfOutput, clausesOfBit}
 use Rattle.clause_writer.proofs.RunLiterals.{made-held}
 use Rattle.clause_writer.proofs.Gathering.{gathers-as}
-use Rattle.clause_writer.proofs.WrittenBits.{bit-outputs, output-tied, Puts}
+use Rattle.clause_writer.proofs.WrittenBits.{bit-outputs, output-tied}
 use Rattle.clause_writer.proofs.bits.put_bit.Statement.{statement}
 use Rattle.clause_writer.proofs.bits.put_bit.Tie as tie
 
@@ -83,12 +83,11 @@ loop-again c =
     let table = c .before .before .before .output-table in
     let put = c .before .put-output in
     let tied = output-tied (a .run) (a .i) there (h .j) (table .result) (table .ensures) (output .0) in
-    let wrote = subst (Puts (h .next) (h .out) (put .result) (put .last .0)) tied (put .ensures) in (
+    let wrote = subst (λ (ns : List ℤ). Wrote (h .next) ns (h .out) (put .result) (put .last .0)) tied (put .ensures) in (
       omega arith,
       put .kept .0 ∙ h .inv .1,
       rows-next (clausesOfOutput (a .run) (a .i)) (outputsOf (a .run) (a .i)) (a .at) (now (a .out))
-          (room (a .run) (a .i) (a .at) (now (a .out)) (start .pre .2)) (h .j) (h .next) _ (h .out) _ (omega (arith, count)) (h .inv .2)
-          (record { next = wrote .0; now-is = wrote .1 }),
+          (room (a .run) (a .i) (a .at) (now (a .out)) (start .pre .2)) (h .j) (h .next) _ (h .out) _ (omega (arith, count)) (h .inv .2) wrote,
     )
 
 same-length : tie.Need-same-length Inv-loop μ-loop
@@ -101,8 +100,7 @@ returns c =
     let all : h .j ≡ outputsOf (a .run) (a .i) = omega (arith, c .before .before .output-count .ensures) in
     let own : concat (h .j) (clausesOfOutput (a .run) (a .i)) ≡ clausesOfBit (a .run) (a .i) =
     ap (λ (n : ℕ). concat n (clausesOfOutput (a .run) (a .i))) all ∙ sym (bit-outputs (a .run) (a .i)) in
-    let w = h .inv .2 in
-    subst (λ (cs : List (List ℤ)). Puts (a .at) (now (a .out)) (h .next) (h .out) (numbers cs)) own (w .next, w .now-is)
+    rw own at (h .inv .2)
 
 pub put-bit-spec : {M : Type 1} → statement M
 put-bit-spec =

@@ -8,11 +8,11 @@ use denote.Ref.{now}
 use lib.IntN.{ℤ}
 use lib.ListN.{length, length-append}
 use lib.Seq.{length-take-le}
+use Rattle.buffers.specs.Overwrite.{Wrote}
 use Rattle.cnf.specs.Formulas.{numbers}
 use Rattle.cnf.specs.Tables.{tableGate, Small}
 use Rattle.cnf.proofs.Signs.{same}
 use Rattle.clause_writer.specs.Writing.{gathered}
-use Rattle.clause_writer.proofs.WrittenBits.{Puts}
 use Rattle.clause_writer.proofs.bits.put_output.Statement.{statement}
 use Rattle.clause_writer.proofs.bits.put_output.Tie as tie
 
@@ -50,7 +50,7 @@ returns c =
     let a = start .args in
     let put = c .before .put-gate in
     let lits = c .before .before .before .before .before .with .ensures .are in
-    subst (λ (ls : List ℤ). Puts (a .at) (now (a .out)) (put .result) (put .last .0) (numbers (tableGate ls (a .table))))
+    subst (λ (ls : List ℤ). Wrote (a .at) (numbers (tableGate ls (a .table))) (now (a .out)) (put .result) (put .last .0))
     (lits ∙ ap (λ (z : ℤ). gathered (a .inputs) ++ (z ∷ [])) (same (a .output) (start .pre .1))) (put .ensures)
 
 pub put-output-spec : {M : Type 1} → statement M
