@@ -78,6 +78,14 @@
 extern "C" {
 #endif
 
+/*
+ * The version of this header, and of the Rust package beside it.  It is raised
+ * when a caller has to be compiled anew, as for another layout of
+ * struct tablegull_answer.  The archive does not tell its version: take header
+ * and archive from the same sources.
+ */
+#define TABLEGULL_VERSION "0.2.0"
+
 /* Lengths that are always enough. */
 #define TABLEGULL_MAX_SHEET 4608       /* bytes of a sheet                     */
 #define TABLEGULL_MAX_LINES 248        /* lines of a sheet                     */
@@ -85,9 +93,10 @@ extern "C" {
 #define TABLEGULL_MAX_REPORT 3968      /* bytes of tablegull_report            */
 #define TABLEGULL_MAX_LINE_CLAUSES 4944 /* numbers of tablegull_line_clauses   */
 
+/* 24 bytes: place is at byte 8, count at byte 16. */
 struct tablegull_answer {
     uint32_t number; /* 0, or the number of the refusal                       */
-    uint32_t place;  /* 0, or the block or line that the refusal names        */
+    uint64_t place;  /* 0, or the block or line that the refusal names        */
     uint64_t count;  /* 0 if refused, else what the call says                 */
 };
 

@@ -2,6 +2,8 @@
 //!
 //! The safe calls at the root of this crate are the ones to use.
 
+use std::mem::{offset_of, size_of};
+
 /// What every call of the archive returns.
 #[repr(C)]
 #[derive(Clone, Copy, Debug, PartialEq, Eq)]
@@ -9,10 +11,19 @@ pub struct Answer {
     /// 0, or the number of the refusal.
     pub number: u32,
     /// 0, or the block or line that the refusal names.
-    pub place: u32,
+    pub place: u64,
     /// 0 if refused, else what the call says.
     pub count: u64,
 }
+
+// The header's layout. Nothing compares the two declarations, and in another
+// layout every field would be read from where the archive has not put it.
+const _: () = {
+    assert!(size_of::<Answer>() == 24);
+    assert!(offset_of!(Answer, number) == 0);
+    assert!(offset_of!(Answer, place) == 8);
+    assert!(offset_of!(Answer, count) == 16);
+};
 
 extern "C" {
     /// Reads a sheet; count: its lines.

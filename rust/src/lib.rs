@@ -68,7 +68,7 @@ pub struct Refusal {
     /// The question's number, 1 to 19.
     pub number: u32,
     /// The block or line at which the answer is no; 0 where none is named.
-    pub place: u32,
+    pub place: u64,
 }
 
 impl Refusal {

@@ -314,7 +314,7 @@ mod compared {
                     if new != old {
                         // A damage of one byte is always a wrong check.
                         let refusal = compare_any(&mut random, &bytes).unwrap_err();
-                        assert_eq!((refusal.number, refusal.place), (2, at as u32 / 512));
+                        assert_eq!((refusal.number, refusal.place), (2, at as u64 / 512));
                     }
                     let mut resealed = bytes.clone();
                     write_checks(&mut resealed);

@@ -31,7 +31,7 @@ fn record(line: usize) -> usize {
 }
 
 /// A byte's place, the byte to put there, and the refusal that follows.
-type Damage = (usize, u8, u32, u32);
+type Damage = (usize, u8, u32, u64);
 
 /// In the order of the questions: of several of these in one sheet, the one
 /// that stands first here is the refusal.
@@ -99,7 +99,7 @@ fn each_question_has_its_number_and_place() {
             assert_ne!(bytes[at], byte);
             bytes[at] = byte;
             let refused = Err(Refusal { number, place });
-            let block = (at / 512) as u32;
+            let block = (at / 512) as u64;
             let wrong_check = Err(Refusal {
                 number: 2,
                 place: block,
@@ -160,7 +160,7 @@ fn wrong_checks_are_placed_at_the_first_block() {
                 }
                 let refused = Err(Refusal {
                     number: 2,
-                    place: block as u32,
+                    place: block as u64,
                 });
                 assert_eq!((calls.read)(&bytes), refused, "{}", calls.name);
                 assert_eq!((calls.seal)(&mut bytes), Ok(3), "{}", calls.name);

@@ -1,4 +1,3 @@
-pub mod Bijection
 pub mod Places
 pub mod GivenValues
 pub mod Spelled

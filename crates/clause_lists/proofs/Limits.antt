@@ -1,11 +1,11 @@
 -- No trail of a sheet's size passes document 01's limits: kind 5 at n = 32 has the most clauses and the most numbers.
 use mathlib.Core.Bool.{Bool, true, false}
-use Prim.Native.Nat.{ℕ, zero, suc, _+_, _-_, _*_, _≤_, _<_}
-use native.Mathlib.Nat.{mul-le-mul, mul-le-mul-left, mul-zero, mul-suc}
+use Prim.Native.Nat.{ℕ, _+_, _-_, _*_, _≤_, _<_}
+use native.Mathlib.Nat.{mul-le-mul, mul-le-mul-left}
 use native.Mathlib.Omega.{arith}
 use lib.ListN.{length}
-use Rattle.words.specs.Below.{count, total}
-use Rattle.words.proofs.Below.{count-le}
+use Rattle.words.specs.Below.{count}
+use Rattle.words.proofs.Below.{count-le, total-same, total-le}
 use Rattle.trail.specs.Kinds.{kindOf, usesSecond}
 use Rattle.trail.specs.Trail.{Trail, inputCount, lineCount, lineAt}
 use Rattle.trail.specs.WellFormed.{WellFormed, Sized}
@@ -27,11 +27,6 @@ numbers-most true true n l h = omega arith
 numbers-most true false n l h = omega arith
 numbers-most false true n l h = omega arith
 numbers-most false false n l h = omega arith
-
-total-le : (n c : ℕ) (f : ℕ → ℕ) → ((k : ℕ) → k < n → f k ≤ c) → total n f ≤ c * n
-unfolding total
-total-le zero c f h = omega (arith, mul-zero c)
-total-le (suc n) c f h = omega (arith, total-le n c f (λ k l. h k (omega arith)), h n (omega arith), mul-suc c n)
 
 variables-most : {t : Trail} → Sized t → variables t ≤ mostVariables
 unfolding variables variablesBefore
@@ -58,7 +53,8 @@ module _ {t : Trail} (good : WellFormed t) (small : Sized t) where
   clauses-count-most =
       omega (
         arith,
-        total-le (lineCount t) 992 (λ k. length (lineClauses t k)) line-clauses-most,
+        total-le (lineCount t) (λ k. length (lineClauses t k)) (λ k. 992) line-clauses-most,
+        total-same (lineCount t) 992,
         mul-le-mul-left 992 (small .lines-most),
       )
 

@@ -14,6 +14,7 @@ use Rattle.words.specs.Words.{bit, fromBits}
 use Rattle.words.specs.Below.{tabulate}
 use Rattle.words.proofs.Below.{length-tabulate, getD-tabulate}
 use Rattle.words.proofs.Bits.{fromBits-lt, bit-fromBits, fromBits-cong, fromBits-bit}
+use Rattle.words.proofs.Bijection.{Leads, equal-counts}
 use Rattle.trail.specs.Trail.{Trail, inputCount}
 use Rattle.trail.specs.Runs.{isStart, follows}
 use Rattle.trail.proofs.Runs.{start-length, start-word, start-yes}
@@ -21,7 +22,6 @@ use Rattle.cnf.specs.Formulas.{variable, satisfies}
 use Rattle.clause_lists.specs.Variables.{variables}
 use Rattle.clause_lists.specs.Assignments.{spelled, assignmentFrom, assignmentAt, startAt, satisfyingCount, followingCount}
 use Rattle.clause_lists.specs.Pairing.{IsAssignment, GivesBack, SpellsBack, MapsInverse, EquallyMany}
-use Rattle.clause_lists.proofs.Bijection.{Leads, equal-counts}
 
 module _ (t : Trail) where
   -- ---- assignments

@@ -108,6 +108,21 @@ any-found (suc b) p k l e =
     (λ d. ap (λ t. any b p || t) d ∙ or-true (any b p))
     k l e
 
+-- a number below the bound that passes
+pub record Found (b : ℕ) (p : ℕ → Bool) : Type 0 where
+  pub number : ℕ
+  pub below : number < b
+  pub passes : p number ≡ true
+
+pub any-witness : (b : ℕ) (p : ℕ → Bool) → any b p ≡ true → Found b p
+unfolding any
+any-witness zero p h = absurd (true≢false (sym h))
+any-witness (suc b) p h = at (any b p) refl h (any-witness b p)
+  where
+    at : (t : Bool) → any b p ≡ t → (t || p b) ≡ true → (any b p ≡ true → Found b p) → Found (suc b) p
+    at true e _ earlier = let w = earlier e in record { number = w .number; below = omega (arith, w .below); passes = w .passes }
+    at false _ here earlier = record { number = b; below = omega arith; passes = here }
+
 -- ---- how many pass
 
 -- from the low end
@@ -178,6 +193,18 @@ pub total-same : (b c : ℕ) → total b (λ k. c) ≡ c * b
 unfolding total
 total-same zero c = omega arith
 total-same (suc b) c = omega (arith, total-same b c)
+
+-- smaller values
+pub total-le : (b : ℕ) (f g : ℕ → ℕ) → ((k : ℕ) → k < b → f k ≤ g k) → total b f ≤ total b g
+unfolding total
+total-le zero f g h = omega arith
+total-le (suc b) f g h = omega (arith, total-le b f g (λ k l. h k (omega arith)), h b (omega arith))
+
+-- by rows or by columns
+pub exchange : (a b : ℕ) (f : ℕ → ℕ → ℕ) → total a (λ x. total b (f x)) ≡ total b (λ y. total a (λ x. f x y))
+unfolding total
+exchange zero b f = sym (total-same b 0 ∙ zero-mul b)
+exchange (suc a) b f = ap (λ (z : ℕ). z + total b (f a)) (exchange a b f) ∙ sym (total-add b (λ y. total a (λ x. f x y)) (f a))
 
 -- The pairs of a number below a and a number below b, counted one by one or row by row.
 pub count-product : (a b : ℕ) (p : ℕ → ℕ → Bool) → 0 < b → count (a * b) (λ z. p (z / b) (z % b)) ≡ total a (λ x. count b (p x))

@@ -6,5 +6,6 @@ pub mod Sums
 pub mod Below
 pub mod Ones
 pub mod LowBits
+pub mod Bijection
 pub mod Pairs
 pub mod Unequal

@@ -1,18 +1,19 @@
 -- Words from the low end: `low b x` is the number whose lowest bit is b and whose other bits are x's. By these laws sums, XORs,
 -- remainders, equality and counts go through one bit after the other.
-use mathlib.Core.Path.{_≡_, refl, sym, ap, ap₂, _∙_, subst}
+use mathlib.Core.Path.{_≡_, refl, sym, ap, ap₂, _∙_}
 use Prim.Native.Nat.{ℕ, zero, suc, _+_, _*_, _/_, _%_, _^_}
 use mathlib.Core.Bool.{Bool, true, false, not, _&&_, xor}
 use native.Mathlib.Omega.{arith}
 use native.Mathlib.Nat.{pow-suc}
-use lib.Dec.{eqb, T, eqb→eq, eqb-refl}
+use borrow.Author.Tests.{eqb-true, eq-eqb, ne-eqb}
+use lib.Dec.{eqb}
 use lib.Bits.{bitXor, xor-step, differ}
 use lib.Arith.{mod-mul}
 use lib.Pow.{pow-pos}
-use Rattle.words.specs.Words.{value, bit}
+use Rattle.words.specs.Words.{value, bit, majority}
 use Rattle.words.specs.Below.{count, total}
+use Rattle.words.proofs.TruthTables.{same-test}
 use Rattle.words.proofs.Bits.{value-inj, bit-zero, bit-suc}
-use Rattle.words.specs.Words.{majority}
 
 unfoldable pub low : Bool → ℕ → ℕ
 low b x = x * 2 + value b
@@ -76,31 +77,21 @@ add-low-mod n x a c X A = ap (λ (s : ℕ). s % 2 ^ suc n) (add-low x a c X A) �
 
 -- ---- equality
 
--- two tests that imply each other are equal
-pub same-test : (p q : Bool) → (T p → T q) → (T q → T p) → p ≡ q
-same-test true true f g = refl
-same-test true false f g = absurd (f tt)
-same-test false true f g = absurd (g tt)
-same-test false false f g = refl
-
 equal-bits : (k x y : ℕ) → eqb (x * 2 + k) (y * 2 + k) ≡ eqb x y
 equal-bits k x y =
     same-test (eqb (x * 2 + k) (y * 2 + k)) (eqb x y)
-    (λ t. subst (λ (z : ℕ). T (eqb x z)) (halves (eqb→eq (x * 2 + k) (y * 2 + k) t)) (eqb-refl x))
-    (λ t. subst (λ (z : ℕ). T (eqb (x * 2 + k) (z * 2 + k))) (eqb→eq x y t) (eqb-refl (x * 2 + k)))
+    (λ t. eq-eqb x y (halves (eqb-true (x * 2 + k) (y * 2 + k) t)))
+    (λ t. eq-eqb (x * 2 + k) (y * 2 + k) (ap (λ (z : ℕ). z * 2 + k) (eqb-true x y t)))
   where
     halves : x * 2 + k ≡ y * 2 + k → x ≡ y
     halves e = omega arith
-
-other-bits : (b c : Bool) (x y : ℕ) → (low b x ≡ low c y → ⊥) → eqb (low b x) (low c y) ≡ false
-other-bits b c x y h = same-test (eqb (low b x) (low c y)) false (λ t. h (eqb→eq (low b x) (low c y) t)) (λ t. absurd t)
 
 pub eqb-low : (b c : Bool) (x y : ℕ) → eqb (low b x) (low c y) ≡ (not (xor b c) && eqb x y)
 unfolding low xor
 eqb-low true true x y = equal-bits 1 x y
 eqb-low false false x y = equal-bits 0 x y
-eqb-low true false x y = other-bits true false x y (λ e. omega arith)
-eqb-low false true x y = other-bits false true x y (λ e. omega arith)
+eqb-low true false x y = ne-eqb (low true x) (low false y) (λ e. omega arith)
+eqb-low false true x y = ne-eqb (low false x) (low true y) (λ e. omega arith)
 
 -- ---- counts and sums over a range of words
 

@@ -1,5 +1,6 @@
 -- Laws of Booleans by their truth tables: two functions of n Booleans that agree in each row, by computation, are equal everywhere.
-use mathlib.Core.Path.{_≡_, refl}
+-- Two tests that pass together are equal.
+use mathlib.Core.Path.{_≡_, refl, sym}
 use mathlib.Core.Bool.{Bool, true, false, _&&_, Bool·beq, and-eq-true-iff, false≢true}
 use Prim.Native.Nat.{ℕ, zero, suc}
 
@@ -31,3 +32,8 @@ by-table (suc n) p q h =
     at-both (λ b. Same n (p b) (q b))
     (by-table n (p false) (q false) (and-eq-true-iff (agree n (p false) (q false)) (agree n (p true) (q true)) .0 h .0))
     (by-table n (p true) (q true) (and-eq-true-iff (agree n (p false) (q false)) (agree n (p true) (q true)) .0 h .1))
+
+pub same-test : (p q : Bool) → (p ≡ true → q ≡ true) → (q ≡ true → p ≡ true) → p ≡ q
+same-test true q to from = sym (to refl)
+same-test false true to from = from refl
+same-test false false to from = refl

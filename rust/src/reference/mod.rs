@@ -121,10 +121,9 @@ fn refuse_unless(yes: bool, number: u32, place: usize) -> Result<(), Refusal> {
     }
 }
 
-/// Places are blocks and lines of a sheet, so they fit any number.
 fn refuse<T>(number: u32, place: usize) -> Result<T, Refusal> {
     Err(Refusal {
         number,
-        place: place as u32,
+        place: place as u64,
     })
 }

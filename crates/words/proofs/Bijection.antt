@@ -1,17 +1,17 @@
 -- Two ranges of numbers and a test on each: if two maps lead what passes the one to what passes the other and back, equally many
--- pass.
+-- pass. So do equally many pairs, if such maps rename one of the pair.
 use mathlib.Core.Path.{_≡_, refl, sym, ap, subst, _∙_}
 use mathlib.Core.Bool.{Bool, true, false, _&&_, and-eq-true-iff}
 use Prim.Native.Nat.{ℕ, zero, suc, _+_, _<_}
 use native.Mathlib.Decide.{decLt}
-use native.Mathlib.Nat.{zero-mul}
 use native.Mathlib.Omega.{arith}
 use borrow.Author.Tests.{eqb-true, eq-eqb, ne-eqb}
 use lib.Dec.{eqb}
 use Rattle.words.specs.Words.{value}
 use Rattle.words.specs.Below.{count, total}
-use Rattle.words.proofs.Below.{count-none, total-cong, total-add, total-same}
+use Rattle.words.proofs.TruthTables.{same-test}
+use Rattle.words.proofs.Below.{count-cong, count-none, total-cong, exchange}
 use Rattle.words.proofs.LowBits.{count-total}
 
 -- f leads what passes p below a to what passes q below b, and g leads it back
 pub record Leads (a b : ℕ) (p q : ℕ → Bool) (f g : ℕ → ℕ) : Type 0 where
@@ -30,17 +30,12 @@ count-once (suc b) y h = at (decLt y b) (count-once b y)
     at (no more) once =
         rw (count-none b (λ z. eqb y z) (λ z l. ne-eqb y z (λ e. omega arith)), eq-eqb y b (omega arith))
 
--- by rows or by columns
-exchange : (a b : ℕ) (f : ℕ → ℕ → ℕ) → total a (λ x. total b (f x)) ≡ total b (λ y. total a (λ x. f x y))
-unfolding total
-exchange zero b f = sym (total-same b 0 ∙ zero-mul b)
-exchange (suc a) b f = ap (λ (z : ℕ). z + total b (f a)) (exchange a b f) ∙ sym (total-add b (λ y. total a (λ x. f x y)) (f a))
-
--- two tests that pass together are equal
-same-test : (s t : Bool) → (s ≡ true → t ≡ true) → (t ≡ true → s ≡ true) → s ≡ t
-same-test true t h k = sym (h refl)
-same-test false true h k = k refl
-same-test false false h k = refl
+-- pairs, counted for each first number or for each second
+by-second : (a b : ℕ) (p : ℕ → ℕ → Bool) → total a (λ x. count b (p x)) ≡ total b (λ y. count a (λ x. p x y))
+by-second a b p =
+    total-cong a (λ x. count b (p x)) (λ x. total b (λ y. value (p x y))) (λ x _. count-total b (p x))
+    ∙ exchange a b (λ x y. value (p x y))
+    ∙ total-cong b (λ y. total a (λ x. value (p x y))) (λ y. count a (λ x. p x y)) (λ y _. sym (count-total a (λ x. p x y)))
 
 module _ (a b : ℕ) (p q : ℕ → Bool) (f g : ℕ → ℕ) where
   -- each number that passes p meets one number below b
@@ -68,17 +63,23 @@ pub equal-counts : {a b : ℕ} {p q : ℕ → Bool} {f g : ℕ → ℕ} → Lead
 equal-counts {a} {b} {p} {q} {f} {g} to from =
     count-total a p
     ∙ total-cong a (λ x. value (p x)) (λ x. count b (λ y. p x && eqb (f x) y)) (meets-one a b p q f g to)
-    ∙ total-cong a (λ x. count b (λ y. p x && eqb (f x) y)) (λ x. total b (λ y. value (p x && eqb (f x) y)))
-    (λ x _. count-total b (λ y. p x && eqb (f x) y))
-    ∙ exchange a b (λ x y. value (p x && eqb (f x) y))
-    ∙ total-cong b (λ y. total a (λ x. value (p x && eqb (f x) y))) (λ y. total a (λ x. value (q y && eqb (g y) x))) columns
-    ∙ total-cong b (λ y. total a (λ x. value (q y && eqb (g y) x))) (λ y. value (q y))
-    (λ y l. sym (meets-one b a q p g f from y l ∙ count-total a (λ x. q y && eqb (g y) x)))
+    ∙ by-second a b (λ x y. p x && eqb (f x) y)
+    ∙ total-cong b (λ y. count a (λ x. p x && eqb (f x) y)) (λ y. value (q y)) column
     ∙ sym (count-total b q)
   where
-    columns : (y : ℕ) → y < b → total a (λ x. value (p x && eqb (f x) y)) ≡ total a (λ x. value (q y && eqb (g y) x))
-    columns y m =
-        total-cong a (λ x. value (p x && eqb (f x) y)) (λ x. value (q y && eqb (g y) x))
-        (λ x l.
-        ap value
-        (same-test (p x && eqb (f x) y) (q y && eqb (g y) x) (meets a b p q f g to x y l) (meets b a q p g f from y x m)))
+    column : (y : ℕ) → y < b → count a (λ x. p x && eqb (f x) y) ≡ value (q y)
+    column y m =
+        count-cong a (λ x. p x && eqb (f x) y) (λ x. q y && eqb (g y) x)
+        (λ x l. same-test (p x && eqb (f x) y) (q y && eqb (g y) x) (meets a b p q f g to x y l) (meets b a q p g f from y x m))
+        ∙ sym (meets-one b a q p g f from y m)
+
+-- Renaming one of a pair, one to one: the first, by a map that may depend on the second. So a subtraction of words is met by as many
+-- pairs as the addition that undoes it.
+pub equal-pairs : {a a′ b : ℕ} {p q : ℕ → ℕ → Bool} {f g : ℕ → ℕ → ℕ}
+    → ((y : ℕ) → y < b → Leads a a′ (λ x. p x y) (λ x. q x y) (f y) (g y))
+    → ((y : ℕ) → y < b → Leads a′ a (λ x. q x y) (λ x. p x y) (g y) (f y))
+    → total a (λ x. count b (p x)) ≡ total a′ (λ x. count b (q x))
+equal-pairs {a} {a′} {b} {p} {q} to from =
+    by-second a b p
+    ∙ total-cong b (λ y. count a (λ x. p x y)) (λ y. count a′ (λ x. q x y)) (λ y l. equal-counts (to y l) (from y l))
+    ∙ sym (by-second a′ b q)
