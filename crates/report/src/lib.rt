@@ -1,4 +1,5 @@
 // A sheet's line reports (document 01). The calls that users make are `line_report` and `sheet_totals`.
+pub mod c_calls;
 pub mod lines;
 
 ghost use mathlib.Core.Path.{_≡_};

@@ -1,10 +1,10 @@
-// One line's report after the other.
+// The lines of a sheet that was read: one line's differential and report, and the sum of all reports.
 ghost use mathlib.Core.Path.{_≡_};
 ghost use Prim.Native.Nat.{_<_, _^_};
 ghost use Rattle.sheet.specs.Fields.{trailOf};
 ghost use Rattle.sheet.specs.Facts.{SheetRead};
 ghost use Rattle.differential.specs.Report.{reportMeans};
-ghost use Rattle.report.specs.Lines.{lineReport};
+ghost use Rattle.report.specs.Lines.{differentialOf, lineReport};
 ghost use Rattle.report.specs.Totals.{sumsOf, sheetTotals, withReport, SmallReport};
 use crate::Totals;
 use differential::Differential;
@@ -16,24 +16,32 @@ use sheet::Header;
 use sheet_fields::lines::difference_at;
 use sheet_fields::lines::line_at;
 
+// Line k's differential.
+pub fn differential_at(sheet: &[u8], header: Header, k: usize) -> Differential
+    requires { ⌜ SheetRead (now sheet) header × (k < header .lines) ⌝ }
+    ensures { λ r. ⌜ r ≡ differentialOf (trailOf (now (sheet .entry))) k ⌝ }
+{
+    let line = line_at(sheet, header, k);
+    let first = difference_at(sheet, header, line.first);
+    let second = difference_at(sheet, header, line.second);
+    Differential {
+        width: header.width,
+        line,
+        first,
+        second,
+    }
+}
+
 // The report of line k.
 pub fn report_at(sheet: &[u8], header: Header, k: usize) -> LineReport
     requires { ⌜ SheetRead (now sheet) header × (k < header .lines) ⌝ }
     ensures { λ r. ⌜ reportMeans r ≡ lineReport (trailOf (now (sheet .entry))) k ⌝ }
 {
-    let line = line_at(sheet, header, k);
-    let first = difference_at(sheet, header, line.first);
-    let second = difference_at(sheet, header, line.second);
-    report(Differential {
-        width: header.width,
-        line,
-        first,
-        second,
-    })
+    report(differential_at(sheet, header, k))
 }
 
 // The totals of all lines.
-pub(crate) fn sum_reports(sheet: &[u8], header: Header) -> Totals
+pub fn sum_reports(sheet: &[u8], header: Header) -> Totals
     requires { ⌜ SheetRead (now sheet) header ⌝ }
     ensures { λ r. ⌜ sumsOf r ≡ sheetTotals (trailOf (now (sheet .entry))) ⌝ }
 {

@@ -1,19 +1,18 @@
 -- What a call on a sheet comes to, from what reading answered: laws for the calls of other crates, and rules for `search`.
 use Prim.Native.Nat.{ℕ, _<_, _≤_}
+use native.Mathlib.Nat.{zero-add}
 use mathlib.Core.Path.{_≡_, sym, ap, subst, _∙_}
-use mathlib.Core.Bool.{Bool, true, false, cond}
+use mathlib.Core.Bool.{true, false, cond}
 use mathlib.Core.List.{List, [], _++_, append-nil}
-use borrow.Author.Tests.{ltb-true, leb-true, lt-ltb, le-ltb, le-leb, lt-leb}
+use borrow.Author.Tests.{lt-ltb, le-ltb, le-leb, lt-leb}
 use lib.Dec.{ltb}
 use lib.ListN.{length}
-use Rattle.buffers.specs.Overwrite.{overwrite}
-use Rattle.trail.specs.Trail.{Trail}
-use Rattle.trail.specs.Runs.{isStart}
-use Rattle.sheet.specs.Asking.{Question, allYes, Verdict, verdict}
+use Rattle.buffers.specs.Overwrite.{overwrite, Wrote}
+use Rattle.sheet.specs.Asking.{Question, Verdict, verdict}
 use Rattle.sheet.specs.Asking.Verdict.{accepted, refused}
 use Rattle.sheet.specs.Fields.{headerOf}
-use Rattle.sheet.specs.Questions.{questions, lineNumberQuestions, roomQuestions, startQuestions}
-use Rattle.sheet.specs.Answers.{readingMeans, refusalOf, answerOf, IsAccepted}
+use Rattle.sheet.specs.Questions.{questions}
+use Rattle.sheet.specs.Answers.{readingMeans, refusalOf, answerOf}
 use Rattle.sheet.specs.Calls.{writing}
 use Rattle.sheet.specs.Facts.{SheetRead}
 use Rattle.sheet.specs.declared.Answer.{Answer}
@@ -22,7 +21,7 @@ use Rattle.sheet.specs.declared.Refusal.{Refusal}
 use Rattle.sheet.specs.declared.Mode.the-variants.{Read}
 use Rattle.sheet.specs.declared.Reading.{Reading}
 use Rattle.sheet.specs.declared.Reading.the-variants.{Accepted, Refused}
-use Rattle.sheet.proofs.Asking.{go-on, stop, yes-first, verdict-yes, yes-verdict, no-verdict, comes}
+use Rattle.sheet.proofs.Asking.{go-on, stop, verdict-yes, yes-verdict, no-verdict, comes}
 use Rattle.sheet.proofs.Asking.Comes.{done, yes, no}
 use Rattle.sheet.proofs.Answering.{asked}
 use Rattle.sheet.proofs.WellFormed.{has-read}
@@ -72,13 +71,27 @@ pub ruleset calling =
 -- ---- what a call that writes leaves
 
 module _ {A : Type 0} (asks : List Question) (values out : List A) where
+  -- a refusal changes nothing
   pub kept : {n p : ℕ} → refused n p ≡ verdict asks (length values)
       → (refused n p ≡ writing asks values out .answer) × (out ≡ writing asks values out .buffer)
   unfolding writing
   kept e = (e, ap (λ t. cond t (overwrite 0 values out) out) (sym (no-verdict asks (length values) (sym e))))
 
-  pub written : {n : ℕ} {after : List A} → accepted n ≡ verdict asks (length values) → after ≡ overwrite 0 values out
-      → (accepted n ≡ writing asks values out .answer) × (after ≡ writing asks values out .buffer)
+  -- what was written from the start is counted by the next position
+  pub written : {p : ℕ} {after : List A} → Wrote 0 values out p after → accepted (length values) ≡ verdict asks (length values)
+      → (accepted p ≡ writing asks values out .answer) × (after ≡ writing asks values out .buffer)
   unfolding writing
-  written {n} e d =
-      (e, d ∙ ap (λ t. cond t (overwrite 0 values out) out) (sym (yes-verdict asks (length values) n (sym e) .0)))
+  written w e = (
+    ap accepted (w .next ∙ zero-add (length values)) ∙ e,
+    w .now-is ∙ ap (λ t. cond t (overwrite 0 values out) out) (sym (yes-verdict asks (length values) _ (sym e) .0)),
+  )
+
+  -- the same with the struct for C
+  pub c-kept : {r : Answer} {n p : ℕ} → r ≡ answerOf (refused n p) → refused n p ≡ verdict asks (length values)
+      → (r ≡ answerOf (writing asks values out .answer)) × (out ≡ writing asks values out .buffer)
+  c-kept d e = let k = kept e in (d ∙ ap answerOf (k .0), k .1)
+
+  pub c-written : {r : Answer} {p : ℕ} {after : List A} → r ≡ answerOf (accepted p) → Wrote 0 values out p after
+      → accepted (length values) ≡ verdict asks (length values)
+      → (r ≡ answerOf (writing asks values out .answer)) × (after ≡ writing asks values out .buffer)
+  c-written d w e = let k = written w e in (d ∙ ap answerOf (k .0), k .1)
