@@ -5,8 +5,9 @@ use mathlib.Core.Path.{_≡_, sym, ap, ap₂, _∙_}
 use mathlib.Core.List.{List, _++_}
 use lib.ListN.{length, length-append}
 use lib.IntN.{ℤ}
-use Rattle.buffers.specs.Overwrite.{overwrite}
-use Rattle.buffers.proofs.Overwrite.{overwrite-length, overwrite-twice}
+use Rattle.buffers.specs.Overwrite.{Wrote}
+use Rattle.buffers.proofs.Overwrite.{overwrite-length}
+use Rattle.buffers.proofs.Appending.{wrote-append}
 use Rattle.trail.specs.Trail.{Trail}
 use Rattle.cnf.specs.Formulas.{numbers}
 use Rattle.cnf.proofs.Clauses.{numbers-append}
@@ -17,24 +18,20 @@ pub list-parts : (t : Trail) (k : ℕ) → lineList t k ≡ numbers (clausesIn t
 unfolding lineList lineClauses
 list-parts t k = numbers-append (clausesIn t firstRun k) (clausesIn t secondRun k)
 
-module _ (t : Trail) (k : ℕ) (out : List ℤ) (room : length (lineList t k) ≤ length out) {c d : List (List ℤ)} (first : c ≡ clausesIn t firstRun k)
-    (second : d ≡ clausesIn t secondRun k) where
+module _ (t : Trail) (k at : ℕ) (out : List ℤ) (room : at + length (lineList t k) ≤ length out) {c d : List (List ℤ)}
+    (first : c ≡ clausesIn t firstRun k) (second : d ≡ clausesIn t secondRun k) where
   parts : lineList t k ≡ numbers c ++ numbers d
   parts = list-parts t k ∙ ap₂ (λ (p q : List (List ℤ)). numbers p ++ numbers q) (sym first) (sym second)
 
   lengths : length (numbers c) + length (numbers d) ≡ length (lineList t k)
   lengths = sym (ap length parts ∙ length-append (numbers c) (numbers d))
 
-  pub room-first : 0 + length (numbers c) ≤ length out
+  pub room-first : at + length (numbers c) ≤ length out
   room-first = omega (arith, lengths)
 
-  module _ {at : ℕ} {after : List ℤ} (next : at ≡ 0 + length (numbers c)) (is : after ≡ overwrite 0 (numbers c) out) where
-    pub room-second : at + length (numbers d) ≤ length after
-    room-second = omega (arith, lengths, ap length is, overwrite-length 0 (numbers c) out room-first)
+  module _ {p : ℕ} {after : List ℤ} (wrote : Wrote at (numbers c) out p after) where
+    pub room-second : p + length (numbers d) ≤ length after
+    room-second = omega (arith, lengths, ap length (wrote .now-is), overwrite-length at (numbers c) out room-first)
 
-    pub list-written : {last : List ℤ} → last ≡ overwrite at (numbers d) after → last ≡ overwrite 0 (lineList t k) out
-    list-written e =
-        e
-        ∙ ap₂ (λ (p : ℕ) (l : List ℤ). overwrite p (numbers d) l) next is
-        ∙ overwrite-twice 0 (numbers c) (numbers d) out room-first
-        ∙ ap (λ (l : List ℤ). overwrite 0 l out) (sym parts)
+    pub list-written : {q : ℕ} {last : List ℤ} → Wrote p (numbers d) after q last → Wrote at (lineList t k) out q last
+    list-written w = rw parts (wrote-append room-first wrote w)

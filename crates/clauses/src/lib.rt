@@ -1,6 +1,6 @@
 // A sheet's clauses for a SAT solver (document 01). The calls that users make are `clause_counts` and `line_list`.
 mod counting;
-mod lines;
+pub mod lines;
 mod sizes;
 
 ghost use mathlib.Core.Path.{_≡_};
@@ -75,6 +75,6 @@ pub fn line_list(sheet: &[u8], k: usize, out: &mut [i32]) -> ListAnswer
             place: 0,
         });
     }
-    put_line(sheet, header, k, out);
+    put_line(sheet, header, k, out, 0);
     ListAnswer::Written(need)
 }

@@ -2,7 +2,7 @@
 ghost use mathlib.Core.Path.{_≡_};
 ghost use Prim.Native.Nat.{_+_, _<_, _≤_};
 ghost use lib.ListN.{length};
-ghost use Rattle.buffers.specs.Overwrite.{overwrite};
+ghost use Rattle.buffers.specs.Overwrite.{Wrote};
 ghost use Rattle.clause_lists.specs.Lists.{clausesIn, lineList};
 ghost use Rattle.clause_lists.specs.Variables.{variablesBefore};
 ghost use Rattle.clause_lists.specs.Variables.Run.{firstRun, secondRun};
@@ -16,14 +16,15 @@ use sheet::Header;
 use sheet_fields::lines::difference_at;
 use sheet_fields::lines::line_at;
 
-// Writes the list of line k from the buffer's start.
-pub(crate) fn put_line(sheet: &[u8], header: Header, k: usize, out: &mut [i32])
-    requires { ⌜ SheetRead (now sheet) header × (k < header .lines) × (length (lineList (trailOf (now sheet)) k) ≤ length (now out)) ⌝ }
-    ensures { λ _. ⌜ now (out .exit) ≡ overwrite 0 (lineList (trailOf (now (sheet .entry))) k) (now (out .entry)) ⌝ }
+// Writes the list of line k from a position on. Returns the next position.
+pub fn put_line(sheet: &[u8], header: Header, k: usize, out: &mut [i32], at: usize) -> usize
+    requires { ⌜ SheetRead (now sheet) header × (k < header .lines)
+        × (at + length (lineList (trailOf (now sheet)) k) ≤ length (now out)) ⌝ }
+    ensures { λ r. ⌜ Wrote at (lineList (trailOf (now (sheet .entry))) k) (now (out .entry)) r (now (out .exit)) ⌝ }
 {
     let before = variables_before(sheet, header, k);
-    let after = put_run(out, 0, first_run(sheet, header, k, before));
-    put_run(out, after, second_run(sheet, header, k, before));
+    let after = put_run(out, at, first_run(sheet, header, k, before));
+    put_run(out, after, second_run(sheet, header, k, before))
 }
 
 // The first run of line k, which has `before` variables before its carries: no literal is negated.

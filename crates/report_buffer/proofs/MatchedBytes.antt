@@ -2,12 +2,11 @@
 use Prim.Native.Nat.{ℕ}
 use mathlib.Core.Path.{_≡_, sym, subst}
 use mathlib.Core.List.{List}
-use Rattle.buffers.specs.Overwrite.{overwrite}
+use Rattle.buffers.specs.Overwrite.{Wrote}
 use Rattle.differential.specs.Report.{reportMeans}
 use Rattle.differential.specs.declared.LineReport.{LineReport}
 use Rattle.report_buffer.specs.Buffer.{reportBytes}
 
-module _ {given found : LineReport} (told : given ≡ found) where
-  pub bytes-given : (at : ℕ) (out : List ℕ) {after : List ℕ}
-      → after ≡ overwrite at (reportBytes (reportMeans found)) out → after ≡ overwrite at (reportBytes (reportMeans given)) out
-  bytes-given at out {after} = subst (λ (r : LineReport). after ≡ overwrite at (reportBytes (reportMeans r)) out) (sym told)
+pub bytes-given : {given found : LineReport} → given ≡ found → {at p : ℕ} {out after : List ℕ}
+    → Wrote at (reportBytes (reportMeans found)) out p after → Wrote at (reportBytes (reportMeans given)) out p after
+bytes-given told {at} {p} {out} {after} = subst (λ (r : LineReport). Wrote at (reportBytes (reportMeans r)) out p after) (sym told)

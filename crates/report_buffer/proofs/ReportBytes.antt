@@ -2,15 +2,14 @@
 use Prim.Native.Nat.{ℕ, zero, suc, _+_, _≤_}
 use native.Mathlib.Numerals.{add-one}
 use native.Mathlib.Omega.{arith}
-use mathlib.Core.Path.{_≡_, refl, sym, ap, ap₂, _∙_}
+use mathlib.Core.Path.{_≡_, refl, sym, ap, _∙_}
 use mathlib.Core.Bool.{cond}
-use mathlib.Core.List.{List, _++_, append-assoc}
+use mathlib.Core.List.{List}
 use lib.ListN.{length, length-append}
 use Rattle.words.specs.Below.{concat}
-use Rattle.buffers.specs.Overwrite.{overwrite}
+use Rattle.buffers.specs.Overwrite.{overwrite, Wrote}
 use Rattle.buffers.specs.LittleEndian.{bytesOf}
-use Rattle.buffers.proofs.Overwrite.{overwrite-nil, overwrite-twice}
-use Rattle.buffers.proofs.Appending.{Wrote, wrote-append}
+use Rattle.buffers.proofs.Appending.{wrote-none, wrote-append}
 use Rattle.buffers.proofs.LittleEndian.{length-bytesOf}
 use Rattle.differential.specs.Report.{Report}
 use Rattle.sheet.specs.Asking.{verdict}
@@ -35,66 +34,33 @@ module _ (report : ℕ → Report) where
       length-append (bytes k) (reportBytes (report k))
       ∙ omega (arith, length-reports k, length-fields (report k .number) (report k .chains) (report k .weight) (report k .fitting))
 
-  pub reports-none : (l : List ℕ) → l ≡ overwrite 0 (bytes 0) l
+  pub reports-none : (l : List ℕ) → Wrote 0 (bytes 0) l 0 l
   unfolding concat
-  reports-none l = sym (overwrite-nil 0 l)
+  reports-none l = wrote-none 0 l
 
-  pub reports-next : (k : ℕ) (l : List ℕ) {out after : List ℕ} → bytesNeeded k ≤ length l → out ≡ overwrite 0 (bytes k) l
-      → after ≡ overwrite (bytesNeeded k) (reportBytes (report k)) out → after ≡ overwrite 0 (bytes (k + 1)) l
+  -- the next position
+  pub reports-place : (k : ℕ) {l : List ℕ} {p : ℕ} {out : List ℕ} → Wrote 0 (bytes k) l p out → p ≡ bytesNeeded k
+  reports-place k w = omega (arith, length-reports k)
+
+  pub reports-next : (k : ℕ) {l : List ℕ} {p q : ℕ} {out after : List ℕ} → bytesNeeded k ≤ length l → Wrote 0 (bytes k) l p out
+      → Wrote p (reportBytes (report k)) out q after → Wrote 0 (bytes (k + 1)) l q after
   unfolding concat
-  reports-next k l room e d =
-      d
-      ∙ ap₂ (λ (p : ℕ) (s : List ℕ). overwrite p (reportBytes (report k)) s) start e
-      ∙ overwrite-twice 0 (bytes k) (reportBytes (report k)) l (omega (arith, length-reports k))
-      ∙ ap (λ (j : ℕ). overwrite 0 (bytes j) l) (sym (add-one k))
-    where
-      start : bytesNeeded k ≡ 0 + length (bytes k)
-      start = omega (arith, length-reports k)
+  reports-next k room w v = rw add-one (wrote-append (omega (arith, length-reports k)) w v)
 
 -- ---- one report, field by field
 
-one : (at k v q : ℕ) (l : List ℕ) {m : List ℕ} → q ≡ at + k → m ≡ overwrite at (bytesOf k v) l → Wrote at (bytesOf k v) l q m
-one at k v q l d e = record { next = d ∙ ap (λ (n : ℕ). at + n) (sym (length-bytesOf k v)); now-is = e }
-
-pub fields-written : (at number chains weight fitting : ℕ) (l : List ℕ) {m₁ m₂ m₃ m₄ m₅ : List ℕ} → at + reportSize ≤ length l
-    → m₁ ≡ overwrite at (bytesOf 1 number) l → m₂ ≡ overwrite (at + 1) (bytesOf 1 0) m₁ → m₃ ≡ overwrite (at + 2) (bytesOf 2 chains) m₂
-    → m₄ ≡ overwrite (at + 4) (bytesOf 4 weight) m₃ → m₅ ≡ overwrite (at + 8) (bytesOf 8 fitting) m₄
-    → m₅ ≡ overwrite at (fieldBytes number chains weight fitting) l
-unfolding fieldBytes
-fields-written at number chains weight fitting l {m₁} {m₂} {m₃} {m₄} {m₅} room e₁ e₂ e₃ e₄ e₅ =
-    whole .now-is ∙ ap (λ (new : List ℕ). overwrite at new l) (simp append-assoc)
-  where
-    two : List ℕ
-    two = bytesOf 1 number ++ bytesOf 1 0
-
-    four : List ℕ
-    four = two ++ bytesOf 2 chains
-
-    eight : List ℕ
-    eight = four ++ bytesOf 4 weight
-
-    long₂ : length two ≡ 2
-    long₂ = simp (length-append, length-bytesOf)
-
-    long₄ : length four ≡ 4
-    long₄ = simp (length-append, length-bytesOf)
-
-    long₈ : length eight ≡ 8
-    long₈ = simp (length-append, length-bytesOf)
-
-    first : Wrote at two l (at + 2) m₂
-    first =
-        wrote-append (omega (arith, length-bytesOf 1 number)) (one at 1 number (at + 1) l refl e₁)
-        (one (at + 1) 1 0 (at + 2) m₁ (omega arith) e₂)
-
-    second : Wrote at four l (at + 4) m₃
-    second = wrote-append (omega (arith, long₂)) first (one (at + 2) 2 chains (at + 4) m₂ (omega arith) e₃)
-
-    third : Wrote at eight l (at + 8) m₄
-    third = wrote-append (omega (arith, long₄)) second (one (at + 4) 4 weight (at + 8) m₃ (omega arith) e₄)
-
-    whole : Wrote at (eight ++ bytesOf 8 fitting) l (at + reportSize) m₅
-    whole = wrote-append (omega (arith, long₈)) third (one (at + 8) 8 fitting (at + reportSize) m₄ (omega arith) e₅)
+module _ (number chains weight fitting : ℕ) {at p₁ p₂ p₃ p₄ p₅ : ℕ} {l m₁ m₂ m₃ m₄ m₅ : List ℕ} where
+  pub fields-written : at + reportSize ≤ length l → length m₁ ≡ length l → length m₂ ≡ length l → length m₃ ≡ length l
+      → Wrote at (bytesOf 1 number) l p₁ m₁ → Wrote p₁ (bytesOf 1 0) m₁ p₂ m₂ → Wrote p₂ (bytesOf 2 chains) m₂ p₃ m₃
+      → Wrote p₃ (bytesOf 4 weight) m₃ p₄ m₄ → Wrote p₄ (bytesOf 8 fitting) m₄ p₅ m₅
+      → Wrote at (fieldBytes number chains weight fitting) l p₅ m₅
+  unfolding fieldBytes
+  fields-written room e₁ e₂ e₃ w₁ w₂ w₃ w₄ w₅ =
+      let n₁ = length-bytesOf 1 number in
+      let n₂ = length-bytesOf 1 0 in
+      let n₃ = length-bytesOf 2 chains in
+      let n₄ = length-bytesOf 4 weight in
+      wrote-append (omega arith) w₁ (wrote-append (omega arith) w₂ (wrote-append (omega arith) w₃ (wrote-append (omega arith) w₄ w₅)))
 
 -- ---- what the call leaves in the buffer
 

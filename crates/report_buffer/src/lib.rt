@@ -3,7 +3,7 @@
 ghost use mathlib.Core.Path.{_≡_};
 ghost use Prim.Native.Nat.{_+_, _≤_};
 ghost use lib.ListN.{length};
-ghost use Rattle.buffers.specs.Overwrite.{overwrite};
+ghost use Rattle.buffers.specs.Overwrite.{Wrote};
 ghost use Rattle.sheet.specs.Asking.{verdict};
 ghost use Rattle.sheet.specs.Fields.{headerOf, trailOf};
 ghost use Rattle.sheet.specs.Facts.{SheetRead};
@@ -51,23 +51,25 @@ pub fn write_reports(sheet: &[u8], out: &mut [u8]) -> BufferAnswer
     BufferAnswer::Written(need)
 }
 
-// Writes the reports of all lines.
-fn put_reports(sheet: &[u8], header: Header, out: &mut [u8])
+// Writes the reports of all lines, one behind the other. Returns the next position.
+fn put_reports(sheet: &[u8], header: Header, out: &mut [u8]) -> usize
     requires { ⌜ SheetRead (now sheet) header × (bytesNeeded (header .lines) ≤ length (now out)) ⌝ }
-    ensures { λ _. ⌜ now (out .exit) ≡ overwrite 0 (sheetBytes (trailOf (now (sheet .entry)))) (now (out .entry)) ⌝ }
+    ensures { λ r. ⌜ Wrote 0 (sheetBytes (trailOf (now (sheet .entry)))) (now (out .entry)) r (now (out .exit)) ⌝ }
 {
     let lines = header.lines;
+    let mut next = 0;
     let mut k = 0;
     while k < lines {
-        put_report(out, REPORT_BYTES * k, report_at(sheet, header, k));
+        next = put_report(out, next, report_at(sheet, header, k));
         k += 1;
     }
+    next
 }
 
-// Writes one report from a position on.
-pub fn put_report(out: &mut [u8], at: usize, report: LineReport)
+// Writes one report from a position on. Returns the next position.
+pub fn put_report(out: &mut [u8], at: usize, report: LineReport) -> usize
     requires { ⌜ (at + reportSize ≤ length (now out)) × SmallReport (reportMeans report) ⌝ }
-    ensures { λ _. ⌜ now (out .exit) ≡ overwrite at (reportBytes (reportMeans report)) (now (out .entry)) ⌝ }
+    ensures { λ r. ⌜ Wrote at (reportBytes (reportMeans report)) (now (out .entry)) r (now (out .exit)) ⌝ }
 {
     match report {
         LineReport::Impossible => put_fields(out, at, 0, 0, 0, 0),
@@ -82,14 +84,21 @@ pub fn put_report(out: &mut [u8], at: usize, report: LineReport)
     }
 }
 
-// Writes a report's number, a zero, its chains, its weight in sixteenths and N.
-fn put_fields(out: &mut [u8], at: usize, number: u32, chains: u32, weight: u32, fitting: u64)
+// Writes a report's number, a zero, its chains, its weight in sixteenths and N, each where the one before it ends.
+fn put_fields(
+    out: &mut [u8],
+    at: usize,
+    number: u32,
+    chains: u32,
+    weight: u32,
+    fitting: u64,
+) -> usize
     requires { ⌜ at + reportSize ≤ length (now out) ⌝ }
-    ensures { λ _. ⌜ now (out .exit) ≡ overwrite at (fieldBytes number chains weight fitting) (now (out .entry)) ⌝ }
+    ensures { λ r. ⌜ Wrote at (fieldBytes number chains weight fitting) (now (out .entry)) r (now (out .exit)) ⌝ }
 {
-    put_number(out, at, 1, number as u64);
-    put_number(out, at + 1, 1, 0);
-    put_number(out, at + 2, 2, chains as u64);
-    put_number(out, at + 4, 4, weight as u64);
-    put_number(out, at + 8, 8, fitting);
+    let zero_at = put_number(out, at, 1, number as u64);
+    let chains_at = put_number(out, zero_at, 1, 0);
+    let weight_at = put_number(out, chains_at, 2, chains as u64);
+    let fitting_at = put_number(out, weight_at, 4, weight as u64);
+    put_number(out, fitting_at, 8, fitting)
 }

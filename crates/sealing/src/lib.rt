@@ -1,4 +1,6 @@
 // Sealing a sheet: it is given its checks. The call that users make is `seal`.
+pub mod c_calls;
+
 ghost use mathlib.Core.Path.{_≡_};
 ghost use Prim.Native.Nat.{_*_, _≤_};
 ghost use lib.ListN.{length};
@@ -27,8 +29,8 @@ pub fn seal(sheet: &mut [u8]) -> Reading
     reading
 }
 
-// Writes the check of each of the blocks.
-fn write_checks(s: &mut [u8], blocks: usize)
+// Writes the check of each of the blocks, whatever else stands in them.
+pub fn write_checks(s: &mut [u8], blocks: usize)
     requires { ⌜ (length (now s) ≡ 512 * blocks) × (blocks ≤ 9) ⌝ }
     ensures { λ _. ⌜ now (s .exit) ≡ withChecks blocks (now (s .entry)) ⌝ }
 {

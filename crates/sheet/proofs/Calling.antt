@@ -68,6 +68,17 @@ given e d = ap accepted e ∙ d
 pub ruleset calling =
     (refused-by-reading, refused-alone, was-read, asks-own, asks-none, line-past, line-there, given, comes, yes, no, done, le-leb, lt-leb)
 
+-- ---- the struct for C, from an answer to the same questions
+
+module _ {A : Type 0} (qs : List Question) (a : A) {r : Answer} where
+  pub c-given : (f : A → ℕ) {b : A} → verdict qs a ≡ accepted b → r ≡ answerOf (accepted (f b)) → r ≡ answerOf (verdict qs (f a))
+  c-given f {b} e d =
+      let yes = yes-verdict qs a b e in
+      d ∙ ap (λ (x : A). answerOf (accepted (f x))) (sym (yes .1)) ∙ ap answerOf (sym (verdict-yes qs (f a) (yes .0)))
+
+  pub c-refused : (b : ℕ) {n p : ℕ} → verdict qs a ≡ refused n p → r ≡ answerOf (refused n p) → r ≡ answerOf (verdict qs b)
+  c-refused b e d = d ∙ ap answerOf (sym (ap (λ l. verdict l b) (sym (append-nil qs)) ∙ stop qs [] a b e))
+
 -- ---- what a call that writes leaves
 
 module _ {A : Type 0} (asks : List Question) (values out : List A) where

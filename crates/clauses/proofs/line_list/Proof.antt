@@ -75,10 +75,9 @@ put-line-requires c κs =
     let start = c .before .before .before .before .before .before .before .before .before .before .before in
     let s = start .args .sheet .now in
     let k = start .args .k in
-    let out = start .args .out .now in
     let read = was-read _ _ (c .before .before .before .before .before .before .before .before .before .read .ensures) _ (c .before .before .before .before .before .before .before .reading .given .1) in
     let need = numbers-are s _ read k (c .before .before .before .before .if1 .left) (c .before .before .before .line-at .ensures) (c .before .before .list-size .ensures .1) in
-    (read, c .before .before .before .before .if1 .left, subst (λ (n : ℕ). n ≤ length out) need (c .before .if2 .left))
+    (read, c .before .before .before .before .if1 .left, search needs)
 
 same-length : tie.Need-same-length
 same-length c = search needs
@@ -96,7 +95,7 @@ returns-4 c =
     let long : length (lineList (trailOf s) k) ≤ length out = subst (λ (n : ℕ). n ≤ length out) need (c .before .before .before .if2 .left) in
     let answer = own-questions s _ _ (read .accepted)
     (some-line-first (length (lineList (trailOf s) k)) (headerOf s) k _ below (some-room (length (lineList (trailOf s) k)) (length (lineList (trailOf s) k)) (length out) long)) in
-    list-given s k out (ap accepted need ∙ answer) (c .before .put-line .ensures)
+    list-given s k out (ap accepted need ∙ answer) (c .before .put-line .ensures .now-is)
 
 pub line-list-spec : {M : Type 1} → statement M
 line-list-spec =

@@ -1,10 +1,6 @@
 -- Each report's fields are written by one call.
-use Prim.Native.Nat.{ℕ}
 use native.Mathlib.Omega.{arith}
-use mathlib.Core.Path.{ap, _∙_}
 use borrow.Author.Needs.{needs}
-use Rattle.buffers.specs.Overwrite.{overwrite}
-use Rattle.report_buffer.specs.Buffer.{fieldBytes}
 use Rattle.report.proofs.Matched.{small-found}
 use Rattle.report_buffer.proofs.MatchedBytes.{bytes-given}
 use Rattle.report_buffer.proofs.put_report.Tie as tie
@@ -41,28 +37,27 @@ same-length : tie.Need-same-length
 same-length c = search needs
 
 returns : tie.Need-returns
-returns c = bytes-given (c .before .before .before .before .enum-told .given .1) _ _ (c .before .before .put-fields .ensures)
+returns c = bytes-given (c .before .before .before .before .enum-told .given .1) (c .before .before .put-fields .ensures)
 
 same-length-2 : tie.Need-same-length-2
 same-length-2 c = search needs
 
 returns-2 : tie.Need-returns-2
-returns-2 c = bytes-given (c .before .before .before .before .enum-told2 .given .1) _ _ (c .before .before .put-fields2 .ensures)
+returns-2 c = bytes-given (c .before .before .before .before .enum-told2 .given .1) (c .before .before .put-fields2 .ensures)
 
 same-length-3 : tie.Need-same-length-3
 same-length-3 c = search needs
 
 returns-3 : tie.Need-returns-3
 returns-3 c =
-    let start = c .before .before .before .before .before .before .before .before .before in
-    let weight = ap (λ (w : ℕ). overwrite (start .args .at) (fieldBytes 2 0 w 0) (start .args .out .now)) (c .before .before .before .before .in-sixteenths .ensures) in
-    bytes-given (c .before .before .before .before .before .before .report .given .1) _ _ (c .before .before .put-fields3 .ensures ∙ weight)
+    bytes-given (c .before .before .before .before .before .before .report .given .1)
+    (rw (c .before .before .before .before .in-sixteenths .ensures) at (c .before .before .put-fields3 .ensures))
 
 same-length-4 : tie.Need-same-length-4
 same-length-4 c = search needs
 
 returns-4 : tie.Need-returns-4
-returns-4 c = bytes-given (c .before .before .before .before .before .report2 .given .1) _ _ (c .before .before .put-fields4 .ensures)
+returns-4 c = bytes-given (c .before .before .before .before .before .report2 .given .1) (c .before .before .put-fields4 .ensures)
 
 pub put-report-spec : {M : Type 1} → statement M
 put-report-spec =

@@ -1,10 +1,10 @@
 -- The invariant: the reports of the lines passed are written.
 use native.Mathlib.Omega.{arith}
-use Prim.Native.Nat.{ℕ, _-_, _≤_}
+use Prim.Native.Nat.{_-_, _≤_}
 use mathlib.Core.Path.{_≡_, refl, sym, ap, _∙_, subst}
 use lib.ListN.{length}
 use borrow.Author.Needs.{needs}
-use Rattle.buffers.specs.Overwrite.{overwrite}
+use Rattle.buffers.specs.Overwrite.{Wrote}
 use Rattle.words.specs.Below.{concat}
 use Rattle.trail.specs.Trail.{lineCount}
 use Rattle.differential.specs.Report.{Report}
@@ -13,23 +13,21 @@ use Rattle.sheet.specs.Fields.{trailOf}
 use Rattle.sheet.proofs.TrailParts.{trail-lines}
 use Rattle.report.specs.Lines.{lineReport}
 use Rattle.report.specs.Totals.{SmallReport}
-use Rattle.report_buffer.specs.Buffer.{reportBytes, sheetBytes, bytesNeeded}
+use Rattle.report_buffer.specs.Buffer.{reportBytes, sheetBytes}
 use Rattle.report.proofs.Demand2.{sheet-report-small}
-use Rattle.report_buffer.proofs.ReportBytes.{reports-none, reports-next}
+use Rattle.report_buffer.proofs.ReportBytes.{reports-none, reports-place, reports-next}
 use Rattle.report_buffer.proofs.put_reports.Tie as tie
 use Rattle.report_buffer.proofs.put_reports.Statement.{statement}
 
 abbrev Inv-loop : tie.InvT-loop
-Inv-loop sheet header out₀ lines k₀ out k = (k ≤ lines) × (length out ≡ length out₀) × (out ≡ overwrite 0 (concat k (λ i. reportBytes (lineReport (trailOf sheet) i))) out₀)
+Inv-loop sheet header out₀ lines next₀ k₀ out next k =
+    (k ≤ lines) × (length out ≡ length out₀) × Wrote 0 (concat k (λ i. reportBytes (lineReport (trailOf sheet) i))) out₀ next out
 
 abbrev μ-loop : tie.MeasureT-loop
-μ-loop sheet header out₀ lines k₀ out k = lines - k
+μ-loop sheet header out₀ lines next₀ k₀ out next k = lines - k
 
 loop-holds : tie.Need-loop-holds Inv-loop μ-loop
 loop-holds c = (search needs, refl, reports-none (lineReport (trailOf (c .before .before .args .sheet .now))) _)
-
-mul-put-report : tie.Need-mul-put-report Inv-loop μ-loop
-mul-put-report c = search needs
 
 report-at-requires : tie.Need-report-at-requires Inv-loop μ-loop
 report-at-requires c κs = search needs
@@ -41,6 +39,7 @@ put-report-requires c κs =
     let s = start .args .sheet .now in
     let read = start .pre .0 in
     let lines : lineCount (trailOf s) ≡ start .args .header .lines = trail-lines s ∙ ap (λ (p : Header). p .lines) (read .parts) in
+    let here = reports-place (lineReport (trailOf s)) (h .k) (h .inv .2) in
     (omega arith, subst SmallReport (sym (c .report-at .ensures)) (sheet-report-small s (read .accepted) (h .k) (omega arith)))
 
 add-k : tie.Need-add-k Inv-loop μ-loop
@@ -55,8 +54,8 @@ loop-again c =
     let h = c .before .before .before .before .before .before .loop in
     let put = c .before .before .put-report in
     let s = start .args .sheet .now in
-    let written = put .ensures ∙ ap (λ (r : Report). overwrite (bytesNeeded (h .k)) (reportBytes r) (h .out)) (c .before .before .before .report-at .ensures) in
-    (search needs, put .kept .0 ∙ h .inv .1, reports-next (lineReport (trailOf s)) (h .k) _ (omega arith) (h .inv .2) written)
+    let written = subst (λ (r : Report). Wrote (h .next) (reportBytes r) (h .out) (put .result) (put .last .0)) (c .before .before .before .report-at .ensures) (put .ensures) in
+    (search needs, put .kept .0 ∙ h .inv .1, reports-next (lineReport (trailOf s)) (h .k) (omega arith) (h .inv .2) written)
 
 same-length : tie.Need-same-length Inv-loop μ-loop
 same-length c = search needs
@@ -69,7 +68,7 @@ returns c =
     let s = start .args .sheet .now in
     let lines : lineCount (trailOf s) ≡ start .args .header .lines = trail-lines s ∙ ap (λ (p : Header). p .lines) (start .pre .0 .parts) in
     let e : h .k ≡ lineCount (trailOf s) = omega arith in
-    h .inv .2 ∙ ap (λ (k : ℕ). overwrite 0 (concat k (λ i. reportBytes (lineReport (trailOf s) i))) (start .args .out .now)) e
+    rw e at (h .inv .2)
 
 pub put-reports-spec : {M : Type 1} → statement M
 put-reports-spec =
@@ -78,7 +77,6 @@ put-reports-spec =
     Inv-loop
     μ-loop
     loop-holds
-    mul-put-report
     report-at-requires
     put-report-requires
     add-k

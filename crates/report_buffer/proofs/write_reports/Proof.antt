@@ -67,7 +67,7 @@ returns-3 c =
     let long = subst (λ (h : Header). bytesNeeded (h .lines) ≤ length out) (sym (read .parts)) (c .before .before .before .before .if1 .left) in
     let need = ap (λ (h : Header). accepted (bytesNeeded (h .lines))) (sym (read .parts)) in
     let answer = need ∙ own-questions s _ _ (read .accepted) (some-room (bytesNeeded (headerOf s .lines)) (bytesNeeded (headerOf s .lines)) (length out) long) in
-    (answer, c .before .before .put-reports .ensures ∙ buffer-written s out _ answer)
+    (answer, c .before .before .put-reports .ensures .now-is ∙ buffer-written s out _ answer)
 
 pub write-reports-spec : {M : Type 1} → statement M
 write-reports-spec =

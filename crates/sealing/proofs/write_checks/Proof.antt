@@ -45,7 +45,7 @@ loop-again c =
     let h = c .before .before .before .before .before .before .before .loop in
     let put = c .before .before .put-number in
     let check = c .before .before .before .before .block-check .ensures in
-    (search needs, put .kept .0 ∙ h .inv .1, put .ensures ∙ checks-next _ _ _ _ (omega arith) (h .inv .2) check)
+    (search needs, put .kept .0 ∙ h .inv .1, put .ensures .now-is ∙ checks-next _ _ _ _ (omega arith) (h .inv .2) check)
 
 same-length : tie.Need-same-length Inv-loop μ-loop
 same-length c = search needs

@@ -16,7 +16,7 @@ put-run-requires : tie.Need-put-run-requires
 put-run-requires c κs =
     let start = c .before .before .before .before in
     let t = trailOf (start .args .sheet .now) in
-    (c .first-run .ensures .0, room-first t (start .args .k) (start .args .out .now) (start .pre .2) (c .first-run .ensures .1) refl)
+    (c .first-run .ensures .0, room-first t (start .args .k) (start .args .at) (start .args .out .now) (start .pre .2) (c .first-run .ensures .1) refl)
 
 second-run-requires : tie.Need-second-run-requires
 second-run-requires c κs = search needs
@@ -28,7 +28,7 @@ put-run-requires-2 c κs =
     let first = c .before .before .before .before .first-run .ensures in
     let wrote = c .before .before .before .put-run .ensures in (
       c .second-run .ensures .0,
-      room-second t (start .args .k) (start .args .out .now) (start .pre .2) (first .1) (c .second-run .ensures .1) (wrote .0) (wrote .1),
+      room-second t (start .args .k) (start .args .at) (start .args .out .now) (start .pre .2) (first .1) (c .second-run .ensures .1) wrote,
     )
 
 same-length : tie.Need-same-length
@@ -41,8 +41,8 @@ returns c =
     let first = c .before .before .before .before .before .before .first-run .ensures in
     let wrote = c .before .before .before .before .before .put-run .ensures in
     let second = c .before .before .second-run .ensures in
-    list-written t (start .args .k) (start .args .out .now) (start .pre .2) (first .1) (second .1) (wrote .0) (wrote .1)
-    (c .before .put-run2 .ensures .1)
+    list-written t (start .args .k) (start .args .at) (start .args .out .now) (start .pre .2) (first .1) (second .1) wrote
+    (c .before .put-run2 .ensures)
 
 pub put-line-spec : {M : Type 1} → statement M
 put-line-spec =

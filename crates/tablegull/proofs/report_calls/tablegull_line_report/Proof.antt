@@ -36,7 +36,7 @@ same-length : tie.Need-same-length
 same-length c = search needs
 
 returns-2 : tie.Need-returns-2
-returns-2 c = report-written _ _ (sym (c .before .before .before .before .before .before .before .before .before .line-report .ensures) ∙ ap lineMeans (c .before .before .before .before .before .before .before .answer .given .1)) _ (c .before .before .before .before .before .if1 .left) (c .success .ensures) (c .before .before .before .put-report .ensures)
+returns-2 c = report-written _ _ (sym (c .before .before .before .before .before .before .before .before .before .line-report .ensures) ∙ ap lineMeans (c .before .before .before .before .before .before .before .answer .given .1)) _ (c .before .before .before .before .before .if1 .left) (c .success .ensures) (c .before .before .before .put-report .ensures .now-is)
 
 returns-3 : tie.Need-returns-3
 returns-3 c = values-refused _ _ reportSize reportBytes _ (sym (c .before .before .before .before .line-report .ensures) ∙ ap lineMeans (c .before .before .answer2 .given .1)) (c .refused2 .ensures) refl
