@@ -1,3 +1,4 @@
 pub mod Least
 pub mod Disagreement
 pub mod MadeWords
+pub mod StartTest

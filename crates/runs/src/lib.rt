@@ -1,4 +1,5 @@
 // Two runs of a sheet (document 01, "Two runs"). The call that users make is `two_runs`.
+pub mod c_calls;
 mod lines;
 mod start;
 
@@ -17,10 +18,14 @@ use sheet::refusal_of;
 // The words of a run: 8 inputs and 248 lines at most.
 type Words = [u64; 256];
 
-// The runs follow the trail, or disagree with it, first in a line and there lowest in a bit; or the refusal.
-pub enum RunsAnswer {
+// The runs follow the trail, or disagree with it, first in a line and there lowest in a bit.
+pub enum RunsOutcome {
     Follows,
     Disagree(usize, u32),
+}
+
+pub enum RunsAnswer {
+    Given(RunsOutcome),
     Refused(Refusal),
 }
 
@@ -39,5 +44,5 @@ pub fn two_runs(sheet: &[u8], start: &[u64]) -> RunsAnswer
             place: 0,
         });
     }
-    run_lines(sheet, header, start)
+    RunsAnswer::Given(run_lines(sheet, header, start))
 }

@@ -8,13 +8,12 @@ ghost use Rattle.trail.specs.Kinds.{makes};
 ghost use Rattle.trail.specs.Trail.{lineAt};
 ghost use Rattle.trail.specs.WellFormed.{WellFormedLine};
 ghost use Rattle.trail.specs.Runs.{wordOfLine, isStart};
-ghost use Rattle.sheet.specs.Asking.Verdict.{accepted};
 ghost use Rattle.sheet.specs.Fields.{trailOf};
 ghost use Rattle.sheet.specs.Facts.{SheetRead};
 ghost use Rattle.runs.specs.Outcome.{outcome};
-ghost use Rattle.runs.specs.Answers.{runsMeans};
+ghost use Rattle.runs.specs.Answers.{outcomeMeans};
 ghost use Rattle.runs.specs.Facts.{Holds, withLine};
-use crate::RunsAnswer;
+use crate::RunsOutcome;
 use crate::Words;
 use crate::start::begin;
 use sheet::Header;
@@ -23,9 +22,9 @@ use trail::Line;
 use trail::word_made;
 
 // Both runs, up to the first line, and in it the lowest bit, where the differences disagree.
-pub(crate) fn run_lines(sheet: &[u8], header: Header, start: &[u64]) -> RunsAnswer
+pub(crate) fn run_lines(sheet: &[u8], header: Header, start: &[u64]) -> RunsOutcome
     requires { ⌜ SheetRead (now sheet) header × (isStart (trailOf (now sheet)) (now start) ≡ true) ⌝ }
-    ensures { λ r. ⌜ runsMeans r ≡ accepted (outcome (trailOf (now (sheet .entry))) (now (start .entry))) ⌝ }
+    ensures { λ r. ⌜ outcomeMeans r ≡ outcome (trailOf (now (sheet .entry))) (now (start .entry)) ⌝ }
 {
     let mut first = [0u64; 256];
     let mut second = [0u64; 256];
@@ -35,13 +34,13 @@ pub(crate) fn run_lines(sheet: &[u8], header: Header, start: &[u64]) -> RunsAnsw
     let mut k = 0;
     'lines: loop {
         if lines <= k {
-            break 'lines RunsAnswer::Follows;
+            break 'lines RunsOutcome::Follows;
         }
         let apart = run_line(sheet, header, k, &mut first, &mut second);
         let mut i = 0u32;
         'bits: while i < n {
             if words::bit(apart, i) {
-                break 'lines RunsAnswer::Disagree(k, i);
+                break 'lines RunsOutcome::Disagree(k, i);
             }
             i += 1;
         }

@@ -10,7 +10,6 @@ use Rattle.words.specs.Words.{bit}
 use Rattle.trail.specs.Trail.{inputCount, lineCount}
 use Rattle.trail.specs.Runs.{partner, lineFollows}
 use Rattle.trail.proofs.Runs.{partner-start}
-use Rattle.sheet.specs.Asking.Verdict.{accepted}
 use Rattle.sheet.specs.Fields.{trailOf}
 use Rattle.runs.specs.Outcome.{disagrees}
 use Rattle.runs.specs.Facts.{Made, Holds}
@@ -118,7 +117,7 @@ returns c =
     let at = c .before .lines in
     let s = start .args .sheet .now in
     let x = start .args .start .now in
-    ap accepted (sym (outcome-follows (trailOf s) x (all-follow (trailOf s) x (λ l less. at .inv .3 l (omega arith)))))
+    sym (outcome-follows (trailOf s) x (all-follow (trailOf s) x (λ l less. at .inv .3 l (omega arith))))
 
 returns-2 : tie.Need-returns-2 Inv-bits μ-bits Inv-lines μ-lines
 returns-2 c =
@@ -135,13 +134,13 @@ returns-2 c =
     let apart : (j : ℕ) → disagrees t x (at .k) j ≡ bit (c .before .before .before .before .run-line .result) j =
     λ j. sym (apart-bit good x (start .pre .1) (at .k) less (at .inv .1) (at .inv .2) j)
     ∙ ap (λ (a : ℕ). bit a j) (sym (c .before .before .before .before .run-line .ensures .2)) in
-    ap accepted (sym (outcome-disagrees t x (at .k) i (record {
+    sym (outcome-disagrees t x (at .k) i (record {
       line-below = less;
       earlier-follow = at .inv .3;
       bit-below = omega arith;
       disagrees-here = apart i ∙ sym (c .before .bit .ensures) ∙ c .if2 .taken;
       lower-agree = λ j l. apart j ∙ c .before .before .before .bits .inv .1 j l;
-    })))
+    }))
 
 pub run-lines-spec : {M : Type 1} → statement M
 run-lines-spec =
