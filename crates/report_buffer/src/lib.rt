@@ -1,16 +1,17 @@
 // The report buffer: the reports of all lines, 16 bytes each (document 01, "Line reports"). The call that users make is
 // `write_reports`.
+pub mod c_calls;
+
 ghost use mathlib.Core.Path.{_≡_};
 ghost use Prim.Native.Nat.{_+_, _≤_};
 ghost use lib.ListN.{length};
 ghost use Rattle.buffers.specs.Overwrite.{Wrote};
-ghost use Rattle.sheet.specs.Asking.{verdict};
-ghost use Rattle.sheet.specs.Fields.{headerOf, trailOf};
+ghost use Rattle.sheet.specs.Fields.{trailOf};
 ghost use Rattle.sheet.specs.Facts.{SheetRead};
 ghost use Rattle.differential.specs.Report.{reportMeans};
 ghost use Rattle.report.specs.Totals.{SmallReport};
 ghost use Rattle.report_buffer.specs.Buffer.{reportSize, fieldBytes, reportBytes, sheetBytes, bytesNeeded};
-ghost use Rattle.report_buffer.specs.Answers.{bufferMeans, bufferAsks, bufferAfter};
+ghost use Rattle.report_buffer.specs.Answers.{bufferMeans, reportsCall};
 use buffers::put_number;
 use differential::LineReport;
 use differential::in_sixteenths;
@@ -32,9 +33,8 @@ pub enum BufferAnswer {
 
 // Writes the reports of all lines, 16 bytes each, from the buffer's start.
 pub fn write_reports(sheet: &[u8], out: &mut [u8]) -> BufferAnswer
-    ensures { λ r. ⌜ (bufferMeans r ≡ verdict (bufferAsks (now (sheet .entry)) (now (out .entry)))
-        (bytesNeeded (headerOf (now (sheet .entry)) .lines)))
-        × (now (out .exit) ≡ bufferAfter (now (sheet .entry)) (now (out .entry))) ⌝ }
+    ensures { λ r. ⌜ (bufferMeans r ≡ reportsCall (now (sheet .entry)) (now (out .entry)) .answer)
+        × (now (out .exit) ≡ reportsCall (now (sheet .entry)) (now (out .entry)) .buffer) ⌝ }
 {
     let reading = read(sheet);
     let Reading::Accepted(header) = reading else {
@@ -47,12 +47,12 @@ pub fn write_reports(sheet: &[u8], out: &mut [u8]) -> BufferAnswer
             place: 0,
         });
     }
-    put_reports(sheet, header, out);
-    BufferAnswer::Written(need)
+    let bytes = put_reports(sheet, header, out);
+    BufferAnswer::Written(bytes)
 }
 
-// Writes the reports of all lines, one behind the other. Returns the next position.
-fn put_reports(sheet: &[u8], header: Header, out: &mut [u8]) -> usize
+// Writes the reports of all lines of a sheet that was read, one behind the other. Returns the next position.
+pub fn put_reports(sheet: &[u8], header: Header, out: &mut [u8]) -> usize
     requires { ⌜ SheetRead (now sheet) header × (bytesNeeded (header .lines) ≤ length (now out)) ⌝ }
     ensures { λ r. ⌜ Wrote 0 (sheetBytes (trailOf (now (sheet .entry)))) (now (out .entry)) r (now (out .exit)) ⌝ }
 {
