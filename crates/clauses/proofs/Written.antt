@@ -14,6 +14,7 @@ use Rattle.buffers.proofs.Overwrite.{take-overwrite}
 use Rattle.trail.specs.Trail.{lineCount}
 use Rattle.clause_lists.specs.Lists.{lineList, joined}
 use Rattle.sheet.specs.Asking.{allYes}
+use Rattle.sheet.specs.Calls.{writing}
 use Rattle.sheet.specs.Fields.{headerOf, trailOf}
 use Rattle.sheet.specs.Questions.{questions, lineNumberQuestions, roomQuestions}
 use Rattle.sheet.specs.Answers.{IsAccepted}
@@ -29,18 +30,16 @@ module _ (s : List ℕ) (accepts : IsAccepted s) (k : ℕ) (below : k < lineCoun
   list = lineList (trailOf s) k
 
   yes-line : allYes (lineNumberQuestions (headerOf s) k) ≡ true
-  unfolding lineNumberQuestions
   yes-line = yes-one _ 17 0 (lt-ltb k (headerOf s .lines) (omega (arith, trail-lines s)))
 
   yes-room : allYes (roomQuestions (length (lineList (trailOf s) k)) (length out)) ≡ true
-  unfolding roomQuestions
   yes-room = yes-one _ 18 0 (le-leb (length (lineList (trailOf s) k)) (length out) room)
 
   yes-all : allYes (listAsks s k out) ≡ true
   yes-all = yes-both (questions Read s) _ accepts (yes-both (lineNumberQuestions (headerOf s) k) _ yes-line yes-room)
 
   pub written-list : written (listCall s k out) ≡ lineList (trailOf s) k
-  unfolding listCall list
+  unfolding writing list
   written-list =
       ap₂ writtenAs (verdict-yes (listAsks s k out) (length list) yes-all)
       (ap (λ (t : Bool). cond t (overwrite 0 list out) out) yes-all)

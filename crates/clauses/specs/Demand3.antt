@@ -17,14 +17,15 @@ use Rattle.sheet.specs.Asking.Verdict.{accepted, refused}
 use Rattle.sheet.specs.Fields.{trailOf}
 use Rattle.sheet.specs.Answers.{IsAccepted}
 use Rattle.report.specs.Lines.{lineReport}
-use Rattle.clauses.specs.Answers.{ListCall, listCall}
+use Rattle.sheet.specs.Calls.{Call}
+use Rattle.clauses.specs.Answers.{listCall}
 
 -- what a call wrote: as many numbers from the buffer's start as its answer says
 abbrev pub writtenAs : Verdict ℕ → List ℤ → List ℤ
 writtenAs (accepted n) buffer = take n buffer
 writtenAs (refused number place) buffer = []
 
-abbrev pub written : ListCall → List ℤ
+abbrev pub written : Call ℤ → List ℤ
 written c = writtenAs (c .answer) (c .buffer)
 
 -- The joined list is what the call for one line's list, lent a buffer long enough for each answer, writes for lines 0 to L - 1, in

@@ -1,29 +1,21 @@
 // A sheet's clauses for a SAT solver (document 01). The calls that users make are `clause_counts` and `line_list`.
-mod counting;
-pub mod lines;
-mod sizes;
+pub mod c_calls;
 
 ghost use mathlib.Core.Path.{_≡_};
 ghost use Rattle.sheet.specs.Asking.{verdict};
 ghost use Rattle.sheet.specs.Fields.{trailOf};
 ghost use Rattle.sheet.specs.Questions.{questions};
 ghost use Rattle.sheet.specs.declared.Mode.the-variants.{Read};
-ghost use Rattle.clauses.specs.Answers.{countsMeans, countsOf, listMeans, listCall};
-use crate::counting::clauses_of_lines;
-use crate::counting::variables_before;
-use crate::lines::put_line;
-use crate::sizes::list_size;
+ghost use Rattle.line_clauses.specs.Counts.{countsOf};
+ghost use Rattle.clauses.specs.Answers.{countsMeans, listMeans, listCall};
+use line_clauses::Counts;
+use line_clauses::counting::both_counts;
+use line_clauses::lines::list_numbers;
+use line_clauses::lines::put_line;
 use reading::read;
 use sheet::Reading;
 use sheet::Refusal;
 use sheet::refusal_of;
-use sheet_fields::lines::line_at;
-
-// A sheet's variables and the clauses of all its lines.
-pub struct Counts {
-    pub variables: u32,
-    pub clauses: u32,
-}
 
 pub enum CountsAnswer {
     Given(Counts),
@@ -44,11 +36,7 @@ pub fn clause_counts(sheet: &[u8]) -> CountsAnswer
     let Reading::Accepted(header) = reading else {
         return CountsAnswer::Refused(refusal_of(reading));
     };
-    let lines = header.lines;
-    CountsAnswer::Given(Counts {
-        variables: variables_before(sheet, header, lines),
-        clauses: clauses_of_lines(sheet, header),
-    })
+    CountsAnswer::Given(both_counts(sheet, header))
 }
 
 // Writes the list of line k from the buffer's start: literals, and a 0 after each clause.
@@ -66,15 +54,13 @@ pub fn line_list(sheet: &[u8], k: usize, out: &mut [i32]) -> ListAnswer
             place: 0,
         });
     }
-    let line = line_at(sheet, header, k);
-    let size = list_size(line, header.width);
-    let need = size.numbers;
+    let need = list_numbers(sheet, header, k);
     if out.len() < need {
         return ListAnswer::Refused(Refusal {
             number: 18,
             place: 0,
         });
     }
-    put_line(sheet, header, k, out, 0);
-    ListAnswer::Written(need)
+    let numbers = put_line(sheet, header, k, out, 0);
+    ListAnswer::Written(numbers)
 }

@@ -1,11 +1,12 @@
 -- What a call on a sheet comes to, from what reading answered: laws for the calls of other crates, and rules for `search`.
 use Prim.Native.Nat.{ℕ, _<_, _≤_}
 use native.Mathlib.Nat.{zero-add}
+use native.Mathlib.Omega.{arith}
 use mathlib.Core.Path.{_≡_, sym, ap, subst, _∙_}
 use mathlib.Core.Bool.{true, false, cond}
 use mathlib.Core.List.{List, [], _++_, append-nil}
 use borrow.Author.Tests.{lt-ltb, le-ltb, le-leb, lt-leb}
-use lib.Dec.{ltb}
+use lib.Dec.{leb, ltb}
 use lib.ListN.{length}
 use Rattle.buffers.specs.Overwrite.{overwrite, Wrote}
 use Rattle.sheet.specs.Asking.{Question, Verdict, verdict}
@@ -65,8 +66,31 @@ module _ (s : List ℕ) (r : Reading) (read : readingMeans r ≡ verdict (questi
 pub given : {A : Type 0} {a b : A} {v : Verdict A} → b ≡ a → accepted a ≡ v → accepted b ≡ v
 given e d = ap accepted e ∙ d
 
-pub ruleset calling =
-    (refused-by-reading, refused-alone, was-read, asks-own, asks-none, line-past, line-there, given, comes, yes, no, done, le-leb, lt-leb)
+-- the room is held against a need that was measured
+pub too-short : (need most room : ℕ) → need ≡ most → room < need → leb most room ≡ false
+too-short need most room e l = lt-leb most room (omega arith)
+
+pub long-enough : (need most room : ℕ) → need ≡ most → need ≤ room → leb most room ≡ true
+long-enough need most room e l = le-leb most room (omega arith)
+
+pub ruleset calling = (
+  refused-by-reading,
+  refused-alone,
+  was-read,
+  asks-own,
+  asks-none,
+  line-past,
+  line-there,
+  given,
+  comes,
+  yes,
+  no,
+  done,
+  le-leb,
+  lt-leb,
+  too-short,
+  long-enough,
+)
 
 -- ---- the struct for C, from an answer to the same questions
 

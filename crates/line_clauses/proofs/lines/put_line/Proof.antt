@@ -2,9 +2,9 @@
 use mathlib.Core.Path.{refl}
 use borrow.Author.Needs.{needs}
 use Rattle.sheet.specs.Fields.{trailOf}
-use Rattle.clauses.proofs.ListParts.{room-first, room-second, list-written}
-use Rattle.clauses.proofs.lines.put_line.Statement.{statement}
-use Rattle.clauses.proofs.lines.put_line.Tie as tie
+use Rattle.line_clauses.proofs.ListParts.{room-first, room-second, list-written}
+use Rattle.line_clauses.proofs.lines.put_line.Statement.{statement}
+use Rattle.line_clauses.proofs.lines.put_line.Tie as tie
 
 variables-before-requires : tie.Need-variables-before-requires
 variables-before-requires c κs = search needs

@@ -28,7 +28,7 @@ use Rattle.sheet.proofs.WellFormed.{line-at-right}
 use Rattle.clause_writer.specs.declared.LineRun.{LineRun}
 use Rattle.clause_writer.specs.Writing.{signedLiteral, differenceIn, wordIn, carryIn, clausesOfRun, ProperRun}
 use Rattle.clause_writer.proofs.RunLiterals.{made-signed, first-signed, second-signed}
-use Rattle.clauses.proofs.SheetCounts.{before-most}
+use Rattle.line_clauses.proofs.SheetCounts.{before-most}
 
 -- ---- a run's clauses depend on the literals of the words that its line names, and of its carries
 

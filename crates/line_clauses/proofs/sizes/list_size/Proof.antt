@@ -8,9 +8,9 @@ use Rattle.trail.specs.declared.Line.{Line}
 use Rattle.trail.specs.Kinds.{kindOf, usesSecond}
 use Rattle.clause_lists.specs.Kinds.{hasCarries}
 use Rattle.clause_lists.specs.Sizes.{gatesAs, gateCounts, sizeOf, clausesOfGate, numbersOfGate}
-use Rattle.clauses.specs.declared.sizes.ListSize.{ListSize}
-use Rattle.clauses.proofs.sizes.list_size.Statement.{statement}
-use Rattle.clauses.proofs.sizes.list_size.Tie as tie
+use Rattle.line_clauses.specs.declared.sizes.ListSize.{ListSize}
+use Rattle.line_clauses.proofs.sizes.list_size.Statement.{statement}
+use Rattle.line_clauses.proofs.sizes.list_size.Tie as tie
 
 -- the size of a line whose kind is known to have these two or not
 sized : (n : ℕ) (l : Line) (second carries : Bool) {s t : Bool} (r : ListSize) → s ≡ usesSecond (kindOf (l .kind)) → s ≡ second

@@ -7,9 +7,9 @@ use borrow.Author.Needs.{needs}
 use Rattle.words.specs.Below.{total}
 use Rattle.clause_lists.specs.Lists.{lineClauses}
 use Rattle.sheet.specs.Fields.{trailOf}
-use Rattle.clauses.proofs.SheetCounts.{total-start, total-more, clauses-are, clauses-upto, clauses-all}
-use Rattle.clauses.proofs.counting.clauses_of_lines.Statement.{statement}
-use Rattle.clauses.proofs.counting.clauses_of_lines.Tie as tie
+use Rattle.line_clauses.proofs.SheetCounts.{total-start, total-more, clauses-are, clauses-upto, clauses-all}
+use Rattle.line_clauses.proofs.counting.clauses_of_lines.Statement.{statement}
+use Rattle.line_clauses.proofs.counting.clauses_of_lines.Tie as tie
 
 abbrev Inv-loop : tie.InvT-loop
 Inv-loop sheet header lines sum₀ k₀ sum k = (k ≤ lines) × (sum ≡ total k (λ i. length (lineClauses (trailOf sheet) i)))

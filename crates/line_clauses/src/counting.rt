@@ -6,10 +6,24 @@ ghost use Rattle.clause_lists.specs.Variables.{adds, variablesBefore};
 ghost use Rattle.clause_lists.specs.Lists.{clauseCount};
 ghost use Rattle.sheet.specs.Fields.{trailOf};
 ghost use Rattle.sheet.specs.Facts.{SheetRead};
+ghost use Rattle.line_clauses.specs.Counts.{countsOf};
+use crate::Counts;
 use crate::sizes::list_size;
 use clause_writer::kinds::has_carries;
 use sheet::Header;
 use sheet_fields::lines::line_at;
+
+// Both counts.
+pub fn both_counts(sheet: &[u8], header: Header) -> Counts
+    requires { ⌜ SheetRead (now sheet) header ⌝ }
+    ensures { λ r. ⌜ r ≡ countsOf (trailOf (now (sheet .entry))) ⌝ }
+{
+    let lines = header.lines;
+    Counts {
+        variables: variables_before(sheet, header, lines),
+        clauses: clauses_of_lines(sheet, header),
+    }
+}
 
 // The variables of the words and of the carries of the lines before line k.
 pub(crate) fn variables_before(sheet: &[u8], header: Header, k: usize) -> u32
@@ -39,7 +53,7 @@ fn carried_before(sheet: &[u8], header: Header, k: usize) -> u32
 }
 
 // The clauses of all lines.
-pub(crate) fn clauses_of_lines(sheet: &[u8], header: Header) -> u32
+fn clauses_of_lines(sheet: &[u8], header: Header) -> u32
     requires { ⌜ SheetRead (now sheet) header ⌝ }
     ensures { λ r. ⌜ r ≡ clauseCount (trailOf (now (sheet .entry))) ⌝ }
 {

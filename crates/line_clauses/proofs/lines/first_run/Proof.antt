@@ -1,9 +1,9 @@
 -- In the first run no literal is negated.
 use native.Mathlib.Omega.{arith}
-use Rattle.clauses.proofs.SameRun.{first-run-is}
+use Rattle.line_clauses.proofs.SameRun.{first-run-is}
 use borrow.Author.Needs.{needs}
-use Rattle.clauses.proofs.lines.first_run.Statement.{statement}
-use Rattle.clauses.proofs.lines.first_run.Tie as tie
+use Rattle.line_clauses.proofs.lines.first_run.Statement.{statement}
+use Rattle.line_clauses.proofs.lines.first_run.Tie as tie
 
 add-t5 : tie.Need-add-t5
 add-t5 c =

@@ -12,9 +12,9 @@ use Rattle.trail.specs.Kinds.{kindOf}
 use Rattle.clause_lists.specs.Kinds.{hasCarries}
 use Rattle.clause_lists.specs.Variables.{adds}
 use Rattle.sheet.specs.Fields.{trailOf}
-use Rattle.clauses.proofs.SheetCounts.{count-start, count-more}
-use Rattle.clauses.proofs.counting.carried_before.Statement.{statement}
-use Rattle.clauses.proofs.counting.carried_before.Tie as tie
+use Rattle.line_clauses.proofs.SheetCounts.{count-start, count-more}
+use Rattle.line_clauses.proofs.counting.carried_before.Statement.{statement}
+use Rattle.line_clauses.proofs.counting.carried_before.Tie as tie
 
 abbrev Inv-loop : tie.InvT-loop
 Inv-loop sheet header k found₀ i₀ found i = (i ≤ k) × (found ≡ count i (adds (trailOf sheet)))

@@ -24,8 +24,8 @@ use Rattle.sheet.specs.declared.Mode.the-variants.{Read}
 use Rattle.sheet.specs.Fields.{trailOf}
 use Rattle.sheet.specs.Facts.{SheetRead}
 use Rattle.sheet.proofs.WellFormed.{accepted-sized}
-use Rattle.clauses.specs.declared.Counts.{Counts}
-use Rattle.clauses.specs.Answers.{countsOf}
+use Rattle.line_clauses.specs.declared.Counts.{Counts}
+use Rattle.line_clauses.specs.Counts.{countsOf}
 
 -- ---- one more
 

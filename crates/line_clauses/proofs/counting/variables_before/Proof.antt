@@ -1,9 +1,9 @@
 -- The words' variables, and two runs' carries for each line with carries before this one; the limits keep them small.
 use native.Mathlib.Omega.{arith}
-use Rattle.clauses.proofs.SheetCounts.{variables-are, word-variables-most, carry-variables-most}
+use Rattle.line_clauses.proofs.SheetCounts.{variables-are, word-variables-most, carry-variables-most}
 use borrow.Author.Needs.{needs}
-use Rattle.clauses.proofs.counting.variables_before.Statement.{statement}
-use Rattle.clauses.proofs.counting.variables_before.Tie as tie
+use Rattle.line_clauses.proofs.counting.variables_before.Statement.{statement}
+use Rattle.line_clauses.proofs.counting.variables_before.Tie as tie
 
 add-words : tie.Need-add-words
 add-words c = omega arith

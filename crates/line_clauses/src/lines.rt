@@ -10,11 +10,22 @@ ghost use Rattle.sheet.specs.Fields.{trailOf};
 ghost use Rattle.sheet.specs.Facts.{SheetRead};
 ghost use Rattle.clause_writer.specs.Writing.{ProperRun, clausesOfRun};
 use crate::counting::variables_before;
+use crate::sizes::list_size;
 use clause_writer::LineRun;
 use clause_writer::put_run;
+use report::lines::differential_at;
 use sheet::Header;
-use sheet_fields::lines::difference_at;
 use sheet_fields::lines::line_at;
+
+// How many numbers the list of line k has.
+pub fn list_numbers(sheet: &[u8], header: Header, k: usize) -> usize
+    requires { ⌜ SheetRead (now sheet) header × (k < header .lines) ⌝ }
+    ensures { λ r. ⌜ r ≡ length (lineList (trailOf (now (sheet .entry))) k) ⌝ }
+{
+    let line = line_at(sheet, header, k);
+    let size = list_size(line, header.width);
+    size.numbers
+}
 
 // Writes the list of line k from a position on. Returns the next position.
 pub fn put_line(sheet: &[u8], header: Header, k: usize, out: &mut [i32], at: usize) -> usize
@@ -48,9 +59,9 @@ fn second_run(sheet: &[u8], header: Header, k: usize, before: u32) -> LineRun
     requires { ⌜ SheetRead (now sheet) header × (k < header .lines) × (before ≡ variablesBefore (trailOf (now sheet)) k) ⌝ }
     ensures { λ r. ⌜ ProperRun r × (clausesOfRun r ≡ clausesIn (trailOf (now (sheet .entry))) secondRun k) ⌝ }
 {
-    let line = line_at(sheet, header, k);
-    let first = difference_at(sheet, header, line.first);
-    let second = difference_at(sheet, header, line.second);
+    let differential = differential_at(sheet, header, k);
+    let line = differential.line;
+    let first = differential.first;
     let made = line.difference;
     let width = header.width;
     let word = header.inputs + k;
@@ -60,7 +71,7 @@ fn second_run(sheet: &[u8], header: Header, k: usize, before: u32) -> LineRun
         word,
         line,
         first,
-        second,
+        second: differential.second,
         made,
         carries,
     }

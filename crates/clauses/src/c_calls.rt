@@ -1,0 +1,45 @@
+// The clauses as C takes them: numbers in a lent buffer, and a struct for the answer.
+ghost use mathlib.Core.Path.{_≡_};
+ghost use Rattle.sheet.specs.Answers.{answerOf};
+ghost use Rattle.clauses.specs.Answers.{countsCall, listCall};
+use crate::ListAnswer;
+use crate::line_list;
+use buffers::put_all;
+use line_clauses::counting::both_counts;
+use reading::read;
+use sheet::Answer;
+use sheet::Reading;
+use sheet::Refusal;
+use sheet::refusal_of;
+
+// Writes the counts of variables and of clauses. Counts these two.
+pub fn clause_counts(sheet: &[u8], out: &mut [u64]) -> Answer
+    ensures { λ r. ⌜ (r ≡ answerOf (countsCall (now (sheet .entry)) (now (out .entry)) .answer))
+        × (now (out .exit) ≡ countsCall (now (sheet .entry)) (now (out .entry)) .buffer) ⌝ }
+{
+    let reading = read(sheet);
+    let Reading::Accepted(header) = reading else {
+        return Answer::refusing(refusal_of(reading));
+    };
+    if out.len() < 2 {
+        return Answer::refusing(Refusal {
+            number: 18,
+            place: 0,
+        });
+    }
+    let counts = both_counts(sheet, header);
+    let numbers = [counts.variables as u64, counts.clauses as u64];
+    Answer::counted(put_all(out, &numbers))
+}
+
+// Writes one line's list: literals, and a 0 after each clause. Counts numbers.
+pub fn line_clauses(sheet: &[u8], line: u64, out: &mut [i32]) -> Answer
+    ensures { λ r. ⌜ (r ≡ answerOf (listCall (now (sheet .entry)) line (now (out .entry)) .answer))
+        × (now (out .exit) ≡ listCall (now (sheet .entry)) line (now (out .entry)) .buffer) ⌝ }
+{
+    let answer = line_list(sheet, line as usize, out);
+    match answer {
+        ListAnswer::Written(numbers) => Answer::counted(numbers),
+        ListAnswer::Refused(refusal) => Answer::refusing(refusal),
+    }
+}
