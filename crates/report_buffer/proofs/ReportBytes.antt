@@ -80,11 +80,11 @@ module _ (s : List ℕ) (r : Reading) (read : readingMeans r ≡ verdict (questi
   needed =
       length-reports (lineReport (trailOf s)) (lineCount (trailOf s)) ∙ ap bytesNeeded (was-read s r read h accepts .lines)
 
-  pub too-short : (room : ℕ) → room < bytesNeeded (h .lines) → leb (length (sheetBytes (trailOf s))) room ≡ false
-  too-short room l = lt-leb (length (sheetBytes (trailOf s))) room (omega (arith, needed))
+  pub reports-short : (room : ℕ) → room < bytesNeeded (h .lines) → leb (length (sheetBytes (trailOf s))) room ≡ false
+  reports-short room l = lt-leb (length (sheetBytes (trailOf s))) room (omega (arith, needed))
 
-  pub long-enough : (room : ℕ) → bytesNeeded (h .lines) ≤ room → leb (length (sheetBytes (trailOf s))) room ≡ true
-  long-enough room l = le-leb (length (sheetBytes (trailOf s))) room (omega (arith, needed))
+  pub reports-long : (room : ℕ) → bytesNeeded (h .lines) ≤ room → leb (length (sheetBytes (trailOf s))) room ≡ true
+  reports-long room l = le-leb (length (sheetBytes (trailOf s))) room (omega (arith, needed))
 
   -- a line's report fits its bytes
   pub line-small : (k : ℕ) → k < h .lines → {m : Report} → m ≡ lineReport (trailOf s) k → SmallReport m
@@ -92,4 +92,4 @@ module _ (s : List ℕ) (r : Reading) (read : readingMeans r ≡ verdict (questi
       let w = was-read s r read h accepts in
       subst SmallReport (sym e) (sheet-report-small s (w .accepted) k (omega (arith, w .lines)))
 
-pub ruleset reporting = (calling, too-short, long-enough, line-small)
+pub ruleset reporting = (calling, reports-short, reports-long, line-small)

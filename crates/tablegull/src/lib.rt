@@ -1,15 +1,93 @@
-// The calls for C and for what links as C does: one for each public call of the other crates. A slice is lent as a pointer and a
-// length. Every call answers with the same struct.
-mod answers;
-mod clause_calls;
-mod report_calls;
-mod run_calls;
-mod sheet_calls;
+// The calls for C and for what links as C does: each is the call of the crate that has its subject, with the same contract, exported.
+// A slice is lent as a pointer and a length. Every call answers with the same struct.
+ghost use mathlib.Core.Path.{_≡_};
+ghost use Rattle.sheet.specs.Asking.{verdict};
+ghost use Rattle.sheet.specs.Fields.{headerOf};
+ghost use Rattle.sheet.specs.Questions.{questions};
+ghost use Rattle.sheet.specs.Answers.{answerOf};
+ghost use Rattle.sheet.specs.declared.Mode.the-variants.{Read, Seal};
+ghost use Rattle.sealing.specs.Sealing.{sealed};
+ghost use Rattle.report.specs.Answers.{totalsCall};
+ghost use Rattle.report_buffer.specs.Answers.{lineReportCall, reportsCall};
+ghost use Rattle.runs.specs.Answers.{outcomeCall};
+ghost use Rattle.clauses.specs.Answers.{countsCall, listCall};
+use clauses::c_calls::clause_counts;
+use clauses::c_calls::line_clauses;
+use reading::c_calls::read;
+use report::c_calls::totals;
+use report_buffer::c_calls::line_report;
+use report_buffer::c_calls::reports;
+use runs::c_calls::two_runs;
+use sealing::c_calls::seal;
+use sheet::Answer;
 
-// The number and place of a refusal, with count 0; or 0, 0 and what the call counts.
-#[repr(C)]
-pub struct TablegullAnswer {
-    pub number: u32,
-    pub place: u32,
-    pub count: u64,
+// Asks all questions of a sheet. Counts its lines.
+#[no_mangle]
+pub extern "C" fn tablegull_read(sheet: &[u8]) -> Answer
+    ensures { λ r. ⌜ r ≡ answerOf (verdict (questions Read (now (sheet .entry))) (headerOf (now (sheet .entry)) .lines)) ⌝ }
+{
+    read(sheet)
+}
+
+// Asks all questions but the checks', and writes every block's check. Counts the blocks.
+#[no_mangle]
+pub extern "C" fn tablegull_seal(sheet: &mut [u8]) -> Answer
+    ensures { λ r. ⌜ (r ≡ answerOf (verdict (questions Seal (now (sheet .entry))) (headerOf (now (sheet .entry)) .blocks)))
+        × (now (sheet .exit) ≡ sealed (now (sheet .entry))) ⌝ }
+{
+    seal(sheet)
+}
+
+// Writes one line's bytes of the report buffer. Counts bytes.
+#[no_mangle]
+pub extern "C" fn tablegull_line_report(sheet: &[u8], line: u64, out: &mut [u8]) -> Answer
+    ensures { λ r. ⌜ (r ≡ answerOf (lineReportCall (now (sheet .entry)) line (now (out .entry)) .answer))
+        × (now (out .exit) ≡ lineReportCall (now (sheet .entry)) line (now (out .entry)) .buffer) ⌝ }
+{
+    line_report(sheet, line, out)
+}
+
+// Writes the report buffer: 16 bytes a line. Counts bytes.
+#[no_mangle]
+pub extern "C" fn tablegull_report(sheet: &[u8], out: &mut [u8]) -> Answer
+    ensures { λ r. ⌜ (r ≡ answerOf (reportsCall (now (sheet .entry)) (now (out .entry)) .answer))
+        × (now (out .exit) ≡ reportsCall (now (sheet .entry)) (now (out .entry)) .buffer) ⌝ }
+{
+    reports(sheet, out)
+}
+
+// Writes the impossible lines, the weight in sixteenths and the chains. Counts these three.
+#[no_mangle]
+pub extern "C" fn tablegull_totals(sheet: &[u8], out: &mut [u64]) -> Answer
+    ensures { λ r. ⌜ (r ≡ answerOf (totalsCall (now (sheet .entry)) (now (out .entry)) .answer))
+        × (now (out .exit) ≡ totalsCall (now (sheet .entry)) (now (out .entry)) .buffer) ⌝ }
+{
+    totals(sheet, out)
+}
+
+// Writes 1, 0, 0 where the runs follow the trail, else 0, and the line and the bit where they disagree. Counts these three.
+#[no_mangle]
+pub extern "C" fn tablegull_two_runs(sheet: &[u8], start: &[u64], out: &mut [u64]) -> Answer
+    ensures { λ r. ⌜ (r ≡ answerOf (outcomeCall (now (sheet .entry)) (now (start .entry)) (now (out .entry)) .answer))
+        × (now (out .exit) ≡ outcomeCall (now (sheet .entry)) (now (start .entry)) (now (out .entry)) .buffer) ⌝ }
+{
+    two_runs(sheet, start, out)
+}
+
+// Writes the counts of variables and of clauses. Counts these two.
+#[no_mangle]
+pub extern "C" fn tablegull_clause_counts(sheet: &[u8], out: &mut [u64]) -> Answer
+    ensures { λ r. ⌜ (r ≡ answerOf (countsCall (now (sheet .entry)) (now (out .entry)) .answer))
+        × (now (out .exit) ≡ countsCall (now (sheet .entry)) (now (out .entry)) .buffer) ⌝ }
+{
+    clause_counts(sheet, out)
+}
+
+// Writes one line's list: literals, and a 0 after each clause. Counts numbers.
+#[no_mangle]
+pub extern "C" fn tablegull_line_clauses(sheet: &[u8], line: u64, out: &mut [i32]) -> Answer
+    ensures { λ r. ⌜ (r ≡ answerOf (listCall (now (sheet .entry)) line (now (out .entry)) .answer))
+        × (now (out .exit) ≡ listCall (now (sheet .entry)) line (now (out .entry)) .buffer) ⌝ }
+{
+    line_clauses(sheet, line, out)
 }

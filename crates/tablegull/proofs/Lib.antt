@@ -1,4 +1,0 @@
-pub mod Places
-pub mod Answering
-pub mod Writing
-pub mod Behind
