@@ -1,7 +1,8 @@
 // Answers as text: each function takes the position to put it at and tells the position after it.
-use clauses::Counts;
 use clauses::ListAnswer;
+use line_clauses::Counts;
 use runs::RunsAnswer;
+use runs::RunsOutcome;
 use sheet::Refusal;
 use text::bounded::put_number;
 use text::bounded::put_refused;
@@ -10,7 +11,7 @@ use text::signs::magnitude;
 
 // A refusal of any call.
 pub fn put_refusal(out: &mut [u8], at: usize, refusal: Refusal) -> usize {
-    put_refused(out, at, refusal.number as u64, refusal.place as u64)
+    put_refused(out, at, refusal.number as u64, refusal.place)
 }
 
 // Both counts of a sheet.
@@ -30,16 +31,20 @@ pub fn put_written(out: &mut [u8], at: usize, answer: ListAnswer) -> usize {
 // The answer of `runs::two_runs`: ` follows`, ` disagree LINE BIT`, or a refusal.
 pub fn put_runs(out: &mut [u8], at: usize, answer: RunsAnswer) -> usize {
     match answer {
-        RunsAnswer::Follows => put_text(out, at, b" follows"),
-        RunsAnswer::Disagree(line, bit) => put_disagree(out, at, line as u64, bit as u64),
+        RunsAnswer::Given(outcome) => put_outcome(out, at, outcome),
         RunsAnswer::Refused(refusal) => put_refusal(out, at, refusal),
     }
 }
 
-// Where two runs disagree.
-fn put_disagree(out: &mut [u8], at: usize, line: u64, bit: u64) -> usize {
-    let named = put_number(out, at, b" disagree ", line);
-    put_number(out, named, b" ", bit)
+// What two runs come to.
+fn put_outcome(out: &mut [u8], at: usize, outcome: RunsOutcome) -> usize {
+    match outcome {
+        RunsOutcome::Follows => put_text(out, at, b" follows"),
+        RunsOutcome::Disagree(line, bit) => {
+            let named = put_number(out, at, b" disagree ", line as u64);
+            put_number(out, named, b" ", bit as u64)
+        }
+    }
 }
 
 // The numbers of a list.

@@ -59,5 +59,5 @@ pub fn put_written(out: &mut [u8], at: usize, answer: BufferAnswer) -> usize {
 
 // A refusal of any of them.
 pub fn put_refusal(out: &mut [u8], at: usize, refusal: Refusal) -> usize {
-    put_refused(out, at, refusal.number as u64, refusal.place as u64)
+    put_refused(out, at, refusal.number as u64, refusal.place)
 }

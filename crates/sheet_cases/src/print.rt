@@ -17,7 +17,7 @@ pub fn put_answer(out: &mut [u8], at: usize, before: &[u8], answer: Reading) -> 
             put_number(out, inputs, b" ", header.lines as u64)
         }
         Reading::Refused(refusal) => {
-            put_refused(out, next, refusal.number as u64, refusal.place as u64)
+            put_refused(out, next, refusal.number as u64, refusal.place)
         }
     }
 }
