@@ -27,10 +27,6 @@ pub fn totals(sheet: &[u8], out: &mut [u64]) -> Answer
     }
     let sums = sum_reports(sheet, header);
     let weight = sums.weight;
-    let numbers = [
-        sums.impossible as u64,
-        weight.0 as u64,
-        sums.chains as u64,
-    ];
+    let numbers = [sums.impossible as u64, weight.0 as u64, sums.chains as u64];
     Answer::counted(put_all(out, &numbers))
 }

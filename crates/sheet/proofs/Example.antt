@@ -7,15 +7,16 @@ use lib.ListN.{set, replicate}
 use Rattle.sheet.specs.Fields.{headerOf, trailOf, recordOf, recordPosition}
 use Rattle.sheet.specs.Answers.{IsAccepted}
 use Rattle.sheet.specs.Example.{exampleSheet}
-use Rattle.sheet.specs.Asking.{Verdict, allYes, verdict}
-use Rattle.sheet.specs.Asking.Verdict.{refused}
+use Rattle.sheet.specs.Asking.{Question, Verdict, allYes, verdict}
+use Rattle.sheet.specs.Asking.Verdict.{accepted, refused}
 use Rattle.sheet.specs.Checks.{checkOf}
-use Rattle.sheet.specs.Questions.{within, zeroBytes, lengthQuestions, checkQuestion, checkQuestions, marked, linesRight, inputRight, headerQuestions, operandsEarlier, operandsDiffer, amountRight, constantRight, unusedZero, recordQuestions, lineQuestions, recordRest, blockRest, restQuestion, laterQuestions, questions}
+use Rattle.sheet.specs.Questions.{within, zeroBytes, lengthQuestions, checkQuestion, checkQuestions, marked, linesRight, inputRight, headerQuestions, operandsEarlier, operandsDiffer, amountRight, constantRight, unusedZero, recordQuestions, lineQuestions, recordRest, blockRest, restQuestion, laterQuestions, questions, lineNumberQuestions, roomQuestions, startQuestions}
 use Rattle.sheet.specs.declared.Header.{Header}
 use Rattle.sheet.specs.declared.Mode.the-variants.{Seal}
 use Rattle.words.specs.Below.{all, total, tabulate, concat}
 use Rattle.buffers.specs.LittleEndian.{numberAt}
 use Rattle.trail.specs.Kinds.{kindOf}
+use Rattle.trail.specs.Runs.{isStart}
 
 pub example-accepted : IsAccepted exampleSheet
 unfolding exampleSheet allYes checkOf within zeroBytes lengthQuestions checkQuestion checkQuestions marked linesRight inputRight headerQuestions operandsEarlier operandsDiffer amountRight constantRight unusedZero recordQuestions lineQuestions recordRest blockRest restQuestion laterQuestions questions all total concat numberAt kindOf recordOf recordPosition
@@ -77,3 +78,23 @@ pub refusals : map (λ (c : Case). answer (set twoLines (c .position) (c .byte))
     ≡ map (λ (c : Case). refused (c .number) (c .place)) cases
 unfolding twoLines verdict within zeroBytes lengthQuestions checkQuestions marked linesRight inputRight headerQuestions operandsEarlier operandsDiffer amountRight constantRight unusedZero recordQuestions lineQuestions recordRest blockRest restQuestion laterQuestions questions all concat numberAt kindOf recordOf recordPosition
 refusals = refl
+
+-- ---- the calls' own questions
+
+-- the verdict of questions that stand alone
+abbrev pub alone : List Question → Verdict ℕ
+alone own = verdict own 0
+
+-- Document 01's example has one line, and words of two bits. Room for 16 is enough for 16.
+pub own-refusals : map alone (
+  lineNumberQuestions (headerOf exampleSheet) 0
+  ∷ lineNumberQuestions (headerOf exampleSheet) 1
+  ∷ roomQuestions 16 16
+  ∷ roomQuestions 16 15
+  ∷ startQuestions (trailOf exampleSheet) (3 ∷ [])
+  ∷ startQuestions (trailOf exampleSheet) (4 ∷ [])
+  ∷ []
+)
+    ≡ accepted 0 ∷ refused 17 0 ∷ accepted 0 ∷ refused 18 0 ∷ accepted 0 ∷ refused 19 0 ∷ []
+unfolding exampleSheet verdict trailOf tabulate numberAt recordOf recordPosition isStart all
+own-refusals = refl

@@ -22,7 +22,7 @@ returns : tie.Need-returns
 returns c = kept _ _ _ (search reporting depth 12)
 
 mul-need : tie.Need-mul-need
-mul-need c = 
+mul-need c =
     let read = was-read _ _ (c .before .before .before .before .read .ensures) _ (c .before .before .reading .given .1) in
     omega (arith, read .limits .lines-most)
 

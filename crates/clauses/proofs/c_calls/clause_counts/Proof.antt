@@ -54,7 +54,7 @@ same-length : tie.Need-same-length
 same-length c = search needs
 
 returns-3 : tie.Need-returns-3
-returns-3 c = 
+returns-3 c =
     let put = c .before .before .before .put-all in
     let wrote = subst (λ (n : Counts). Wrote 0 (countsNumbers n) (c .before .before .before .before .before .before .before .before .before .before .before .before .before .before .before .before .args .out .now) (put .result) (put .last .0)) (c .before .before .before .before .before .before .before .before .both-counts .ensures) (put .ensures) in
     c-written _ _ _ (c .counted .ensures) wrote (search calling depth 12)

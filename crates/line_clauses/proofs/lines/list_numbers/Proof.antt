@@ -11,7 +11,7 @@ list-size-requires : tie.Need-list-size-requires
 list-size-requires c κs = search needs
 
 returns : tie.Need-returns
-returns c = 
+returns c =
     let start = c .before .before .before in
     numbers-are _ _ (start .pre .0) (start .args .k) (start .pre .1) (c .before .line-at .ensures) (c .list-size .ensures .1)
 

@@ -52,7 +52,7 @@ same-length : tie.Need-same-length
 same-length c = search needs
 
 returns-4 : tie.Need-returns-4
-returns-4 c = 
+returns-4 c =
     let put = c .before .before .before .put-report in
     let wrote = subst (λ (r : Report). Wrote 0 (reportBytes r) (c .before .before .before .before .before .before .before .before .before .before .before .before .before .before .before .args .out .now) (put .result) (put .last .0)) (c .before .before .before .before .report-at .ensures) (put .ensures) in
     c-written _ _ _ (c .counted .ensures) wrote (search reporting depth 12)

@@ -25,7 +25,7 @@ same-length : tie.Need-same-length
 same-length c = search needs
 
 returns : tie.Need-returns
-returns c = 
+returns c =
     let made = c .before .before .before .before .before .before .write-reports .ensures in
     (c .counted .ensures ∙ ap answerOf (sym (ap bufferMeans (c .before .before .answer .given .1)) ∙ made .0), made .1)
 
@@ -33,7 +33,7 @@ same-length-2 : tie.Need-same-length-2
 same-length-2 c = search needs
 
 returns-2 : tie.Need-returns-2
-returns-2 c = 
+returns-2 c =
     let made = c .before .before .before .before .before .before .write-reports .ensures in
     (c .refusing .ensures ∙ ap answerOf (sym (ap bufferMeans (c .before .before .answer2 .given .1)) ∙ made .0), made .1)
 

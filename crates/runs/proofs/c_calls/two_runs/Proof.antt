@@ -55,7 +55,7 @@ same-length : tie.Need-same-length
 same-length c = search needs
 
 returns-4 : tie.Need-returns-4
-returns-4 c = 
+returns-4 c =
     let put = c .before .before .before .put-outcome in
     let wrote = subst (λ (o : Outcome). Wrote 0 (outcomeNumbers o) (c .before .before .before .before .before .before .before .before .before .before .before .before .before .before .before .before .args .out .now) (put .result) (put .last .0)) (c .before .before .before .before .run-lines .ensures) (put .ensures) in
     c-written _ _ _ (c .counted .ensures) wrote (search running depth 14)
