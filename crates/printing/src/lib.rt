@@ -5,9 +5,14 @@ mod refusals;
 mod report_text;
 
 ghost use Prim.Native.Nat.{_≤_};
+ghost use Rattle.sheet.specs.Facts.{SheetRead};
 use crate::clause_text::put_clauses;
 use crate::clause_text::put_header;
+use crate::refusals::put_refusal;
 use crate::report_text::put_report;
+use reading::read;
+use sheet::Header;
+use sheet::Reading;
 use text::stream::OUTPUT_BYTES;
 use text::stream::write_out;
 
@@ -35,9 +40,20 @@ pub fn print(text: Text, file: i32) {
 fn put_text(out: &mut [u8; OUTPUT_BYTES], text: Text, sheet: &[u8]) -> usize
     ensures { λ r. ⌜ r ≤ 8192 ⌝ }
 {
+    match read(sheet) {
+        Reading::Accepted(header) => put_accepted(out, text, sheet, header),
+        Reading::Refused(refusal) => put_refusal(out, 0, refusal),
+    }
+}
+
+// A text of a sheet that reading accepted. Nothing below asks it again, so nothing below can refuse it.
+fn put_accepted(out: &mut [u8; OUTPUT_BYTES], text: Text, sheet: &[u8], header: Header) -> usize
+    requires { ⌜ SheetRead (now sheet) header ⌝ }
+    ensures { λ r. ⌜ r ≤ 8192 ⌝ }
+{
     match text {
-        Text::Report => put_report(out, 0, sheet),
-        Text::Clauses => put_clauses(out, 0, sheet),
-        Text::Header => put_header(out, 0, sheet),
+        Text::Report => put_report(out, 0, sheet, header),
+        Text::Clauses => put_clauses(out, 0, sheet, header),
+        Text::Header => put_header(out, 0, sheet, header),
     }
 }

@@ -11,6 +11,6 @@ pub(crate) fn put_refusal(out: &mut [u8; OUTPUT_BYTES], at: usize, refusal: Refu
     ensures { λ r. ⌜ r ≤ 8192 ⌝ }
 {
     let numbered = put_number(out, at, b"refused ", refusal.number as u64);
-    let placed = put_number(out, numbered, b" ", refusal.place as u64);
+    let placed = put_number(out, numbered, b" ", refusal.place);
     put_byte(out, placed, b'\n')
 }

@@ -1,17 +1,16 @@
 // A sheet's report as text: a line for each line of the sheet, with the numbers of the report buffer, then the totals.
 ghost use Prim.Native.Nat.{_+_, _≤_};
 ghost use lib.ListN.{length};
+ghost use Rattle.sheet.specs.Facts.{SheetRead};
 ghost use Rattle.report_buffer.specs.Buffer.{reportSize};
-use crate::refusals::put_refusal;
 use buffers::byte_at;
 use buffers::u16_at;
 use buffers::u32_at;
 use report::Totals;
-use report::TotalsAnswer;
-use report::sheet_totals;
-use report_buffer::BufferAnswer;
+use report::lines::sum_reports;
 use report_buffer::REPORT_BYTES;
-use report_buffer::write_reports;
+use report_buffer::put_reports;
+use sheet::Header;
 use text::stream::OUTPUT_BYTES;
 use text::stream::put_byte;
 use text::stream::put_decimal;
@@ -21,34 +20,32 @@ use text::stream::put_text;
 // The reports of 248 lines, the most that a sheet has.
 const BUFFER_BYTES: usize = 3968;
 
-// The report of a sheet, or the refusal.
-pub(crate) fn put_report(out: &mut [u8; OUTPUT_BYTES], at: usize, sheet: &[u8]) -> usize
-    requires { ⌜ at ≤ 8192 ⌝ }
+// The report of a sheet that was read.
+pub(crate) fn put_report(
+    out: &mut [u8; OUTPUT_BYTES],
+    at: usize,
+    sheet: &[u8],
+    header: Header,
+) -> usize
+    requires { ⌜ (at ≤ 8192) × SheetRead (now sheet) header ⌝ }
     ensures { λ r. ⌜ r ≤ 8192 ⌝ }
 {
-    match sheet_totals(sheet) {
-        TotalsAnswer::Given(totals) => {
-            let listed = put_lines(out, at, sheet);
-            put_totals(out, listed, totals)
-        }
-        TotalsAnswer::Refused(refusal) => put_refusal(out, at, refusal),
-    }
+    let listed = put_lines(out, at, sheet, header);
+    put_totals(out, listed, sum_reports(sheet, header))
 }
 
 // The lines of a sheet, by way of the report buffer.
-fn put_lines(out: &mut [u8; OUTPUT_BYTES], at: usize, sheet: &[u8]) -> usize
-    requires { ⌜ at ≤ 8192 ⌝ }
+fn put_lines(out: &mut [u8; OUTPUT_BYTES], at: usize, sheet: &[u8], header: Header) -> usize
+    requires { ⌜ (at ≤ 8192) × SheetRead (now sheet) header ⌝ }
     ensures { λ r. ⌜ r ≤ 8192 ⌝ }
 {
     let mut reports = [0u8; BUFFER_BYTES];
-    match write_reports(sheet, &mut reports) {
-        BufferAnswer::Written(bytes) => put_reports(out, at, &reports[0..bytes]),
-        BufferAnswer::Refused(refusal) => put_refusal(out, at, refusal),
-    }
+    let bytes = put_reports(sheet, header, &mut reports);
+    put_buffer(out, at, &reports[0..bytes])
 }
 
 // The lines of a report buffer, each after its number.
-fn put_reports(out: &mut [u8; OUTPUT_BYTES], at: usize, reports: &[u8]) -> usize
+fn put_buffer(out: &mut [u8; OUTPUT_BYTES], at: usize, reports: &[u8]) -> usize
     requires { ⌜ at ≤ 8192 ⌝ }
     ensures { λ r. ⌜ r ≤ 8192 ⌝ }
 {

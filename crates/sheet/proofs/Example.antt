@@ -87,14 +87,14 @@ alone own = verdict own 0
 
 -- Document 01's example has one line, and words of two bits. Room for 16 is enough for 16.
 pub own-refusals : map alone (
-  lineNumberQuestions (headerOf exampleSheet) 0
-  ∷ lineNumberQuestions (headerOf exampleSheet) 1
-  ∷ roomQuestions 16 16
-  ∷ roomQuestions 16 15
-  ∷ startQuestions (trailOf exampleSheet) (3 ∷ [])
-  ∷ startQuestions (trailOf exampleSheet) (4 ∷ [])
-  ∷ []
-)
+    lineNumberQuestions (headerOf exampleSheet) 0
+    ∷ lineNumberQuestions (headerOf exampleSheet) 1
+    ∷ roomQuestions 16 16
+    ∷ roomQuestions 16 15
+    ∷ startQuestions (trailOf exampleSheet) (3 ∷ [])
+    ∷ startQuestions (trailOf exampleSheet) (4 ∷ [])
+    ∷ []
+    )
     ≡ accepted 0 ∷ refused 17 0 ∷ accepted 0 ∷ refused 18 0 ∷ accepted 0 ∷ refused 19 0 ∷ []
 unfolding exampleSheet verdict trailOf tabulate numberAt recordOf recordPosition isStart all
 own-refusals = refl

@@ -1,8 +1,8 @@
 -- The position stays within the output buffer.
 use Prim.Native.Nat.{_-_, _≤_}
 use borrow.Author.Needs.{needs}
-use Rattle.printing.proofs.report_text.put_reports.Statement.{statement}
-use Rattle.printing.proofs.report_text.put_reports.Tie as tie
+use Rattle.printing.proofs.report_text.put_buffer.Statement.{statement}
+use Rattle.printing.proofs.report_text.put_buffer.Tie as tie
 
 abbrev Inv-loop : tie.InvT-loop
 Inv-loop out₀ at reports next₀ k₀ k-end out next k = next ≤ 8192
@@ -34,8 +34,8 @@ loop-again c = search needs
 returns : tie.Need-returns Inv-loop μ-loop
 returns c = search needs
 
-pub put-reports-spec : {M : Type 1} → statement M
-put-reports-spec =
+pub put-buffer-spec : {M : Type 1} → statement M
+put-buffer-spec =
     tie.close
     (tie.spec
     Inv-loop
