@@ -1,3 +1,4 @@
 pub mod Overwrite
 pub mod Appending
 pub mod LittleEndian
+pub mod Standing
