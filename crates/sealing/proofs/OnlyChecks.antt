@@ -75,7 +75,7 @@ module _ {s t : List ℕ} (h : SameButChecks s t) where
   same-zeros k i l =
       all-cong k (λ j. eqb (byteAt s (i + j)) 0) (λ j. eqb (byteAt t (i + j)) 0) (λ j g. ap (λ (x : ℕ). eqb x 0) (h .same-byte (i + j) (omega arith)))
 
-  same-length-questions : lengthQuestions s ≡ lengthQuestions t
+  pub same-length-questions : lengthQuestions s ≡ lengthQuestions t
   unfolding lengthQuestions
   same-length-questions = rw (h .same-length)
 
