@@ -18,6 +18,7 @@ use Rattle.words.proofs.Below.{count-cong}
 use Rattle.words.proofs.Bits.{below-suc, below-zero, bit-and, bit-mod, bit-or, bit-shl, bit-xor, mod-bit}
 use Rattle.words.proofs.Ones.{ones-count}
 use Rattle.differential.specs.Constant.{state, is000, is11, quiet, constantFitting, isChain, chains, chainP}
+use Rattle.differential.specs.Unit.{unit}
 use Rattle.differential.specs.Logarithm.{highestOne, logarithm}
 use Rattle.differential.specs.Weight.{chainCost}
 use Rattle.differential.proofs.ChainLaws.{quiet-le}
@@ -103,7 +104,7 @@ chain-some u v i e = ltb-true 0 (quiet u v i) (and-eq-true-iff (is11 (state u v 
 
 -- the cost of a chain, as the code computes it: rules for `search`
 module _ (a u v i : ℕ) {k whole known p : ℕ}
-    (run : k ≡ quiet u v i) (e : whole ≡ 16 * k) (f : known ≡ logarithm p) (g : p ≡ chainP a u v k i) where
+    (run : k ≡ quiet u v i) (e : whole ≡ unit * k) (f : known ≡ logarithm p) (g : p ≡ chainP a u v k i) where
   pub chain-least : 0 < chainP a u v (quiet u v i) i → known ≤ whole
   chain-least some = cost-least a u v k i e f g (rw run some)
 

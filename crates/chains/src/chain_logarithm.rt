@@ -6,7 +6,7 @@ use differential::Sixteenths;
 use differential::WholeBits;
 use differential::in_sixteenths;
 
-// A = 16M + F.
+// A = 16M + F: in sixteenths F adds itself.
 pub(crate) fn logarithm(p: u64) -> Sixteenths
     requires { ⌜ 0 < p ⌝ }
     ensures { λ r. ⌜ r .0 ≡ Logarithm·logarithm p ⌝ }

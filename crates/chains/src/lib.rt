@@ -6,6 +6,7 @@ ghost use Prim.Native.Nat.{_*_, _<_, _≤_, _^_};
 ghost use mathlib.Core.Bool.{true};
 ghost use Rattle.words.specs.Below.{total};
 ghost use Rattle.differential.specs.Constant.{constantFitting, halvings as Constant·halvings, quiet, isChain, chains, chainT, chainP};
+ghost use Rattle.differential.specs.Unit.{unit};
 ghost use Rattle.differential.specs.Weight.{chainCost};
 ghost use Rattle.differential.specs.Report.{reportMeans, constantReport};
 ghost use Rattle.chains.specs.Ends.{Not000, ChainEnds};
@@ -51,7 +52,7 @@ struct Chains {
 // The chains of all positions below n, from the highest down. Most positions end no chain, so that it goes by the ones of a word.
 fn all_chains(n: u32, a: u64, u: u64, v: u64) -> Chains
     requires { ⌜ (1 ≤ n) × (n ≤ 32) × (a < 2 ^ n) × (v < 2 ^ n) × (0 < constantFitting n a u v) ⌝ }
-    ensures { λ r. ⌜ (r .cost .0 ≡ total n (chainCost a u v)) × (r .number ≡ chains n u v) × (r .cost .0 ≤ 16 * n) ⌝ }
+    ensures { λ r. ⌜ (r .cost .0 ≡ total n (chainCost a u v)) × (r .number ≡ chains n u v) × (r .cost .0 ≤ unit * n) ⌝ }
 {
     let ends = chain_ends(n, u, v);
     let mut cost = 0;

@@ -1,4 +1,4 @@
--- The logarithm in sixteenths: the place of the highest one, the four bits after it, and how far it is from the truth.
+-- The logarithm in any unit: the place of the highest one, what the four bits after it add, and how far the two are from the truth.
 use mathlib.Core.Path.{_≡_, refl, sym, ap, subst, _∙_}
 use mathlib.Core.Bool.{Bool, true, false, _&&_, cond, and-eq-true-iff}
 use Prim.Native.Nat.{ℕ, zero, suc, _+_, _-_, _*_, _/_, _%_, _^_, _<_, _≤_}
@@ -15,6 +15,7 @@ use Rattle.words.specs.Words.{value, bit}
 use Rattle.words.specs.Below.{all}
 use Rattle.words.proofs.Below.{all-true}
 use Rattle.words.proofs.Bits.{fromBits-below, mod-bit}
+use Rattle.differential.specs.Unit.{unit, slack, table}
 use Rattle.differential.specs.Logarithm.{highestOneBelow, highestOne, nextFour, logarithm}
 use Rattle.differential.proofs.Powers.{exponent-lt, lt-pow, mul-pow, pow-mul}
 
@@ -96,29 +97,12 @@ nextFour-up p l = nextFour-is p ∙ ap (λ (z : ℕ). z % 16) (ap (λ (z : ℕ).
         four : 4 ≡ 4 - m + m
         four = omega arith
 
--- ---- to 3 sixteenths
+-- ---- how far it is from the truth
 
--- p lies between 16 + F and 17 + F sixteenths of 2 ^ M. The 16th powers of these two lie within 2 ^ F and 2 ^ (F + 3), times
--- 16 ^ 16: one test, computed at each of the sixteen F.
-within : ℕ → Bool
-within f = leb (2 ^ f * 16 ^ 16) ((16 + f) ^ 16) && leb ((17 + f) ^ 16) (2 ^ (f + 3) * 16 ^ 16)
-
-tested : all 16 within ≡ true
-unfolding all within
-tested = refl
-
-module _ (f : ℕ) (digit : f < 16) where
-  passes : (leb (2 ^ f * 16 ^ 16) ((16 + f) ^ 16) ≡ true) × (leb ((17 + f) ^ 16) (2 ^ (f + 3) * 16 ^ 16) ≡ true)
-  unfolding within
-  passes =
-      and-eq-true-iff (leb (2 ^ f * 16 ^ 16) ((16 + f) ^ 16)) (leb ((17 + f) ^ 16) (2 ^ (f + 3) * 16 ^ 16)) .0
-      (all-true 16 within tested f digit)
-
-  digit-low : 2 ^ f * 16 ^ 16 ≤ (16 + f) ^ 16
-  digit-low = leb-true (2 ^ f * 16 ^ 16) ((16 + f) ^ 16) (passes .0)
-
-  digit-high : (17 + f) ^ 16 ≤ 2 ^ (f + 3) * 16 ^ 16
-  digit-high = leb-true ((17 + f) ^ 16) (2 ^ (f + 3) * 16 ^ 16) (passes .1)
+-- In units of 1 / q bit F adds t F, and e units are left open: (16 + F) / 16 to the power of q is 2 ^ t F at least, and (17 + F) / 16 to
+-- the power of q is 2 ^ (t F + e) at most. One test, computed at each of the sixteen F.
+within : ℕ → ℕ → (ℕ → ℕ) → ℕ → Bool
+within q e t f = leb (2 ^ t f * 16 ^ q) ((16 + f) ^ q) && leb ((17 + f) ^ q) (2 ^ (t f + e) * 16 ^ q)
 
 module _ (p : ℕ) (some : 0 < p) where
   abbrev m : ℕ
@@ -137,6 +121,7 @@ module _ (p : ℕ) (some : 0 < p) where
       most : p * 16 / 2 ^ m < 32
       most = div-lt-iff-lt-mul (pow-pos m) .1 (omega (arith, highestOne-high p some, pow-add 2 m 1))
 
+  -- p lies between 16 + F and 17 + F of them
   lower : (16 + f) * 2 ^ m ≤ p * 16
   lower = subst (λ (z : ℕ). z * 2 ^ m ≤ p * 16) rounded (div-mul-le-self (p * 16) (2 ^ m))
 
@@ -149,34 +134,55 @@ module _ (p : ℕ) (some : 0 < p) where
       more : (17 + f) * 2 ^ m ≡ (16 + f) * 2 ^ m + 2 ^ m
       more = ap (λ (z : ℕ). z * 2 ^ m) (omega arith) ∙ suc-mul (16 + f) (2 ^ m)
 
-  powers : (k : ℕ) → (k * 2 ^ m) ^ 16 ≡ k ^ 16 * 2 ^ (16 * m)
-  powers k = mul-pow k (2 ^ m) 16 ∙ ap (λ (z : ℕ). k ^ 16 * z) (sym (pow-mul 2 m 16) ∙ ap (λ (z : ℕ). 2 ^ z) (mul-comm m 16))
+  module _ (q e : ℕ) (t : ℕ → ℕ) (tested : all 16 (within q e t) ≡ true) where
+    passes : (leb (2 ^ t f * 16 ^ q) ((16 + f) ^ q) ≡ true) × (leb ((17 + f) ^ q) (2 ^ (t f + e) * 16 ^ q) ≡ true)
+    unfolding within
+    passes =
+        and-eq-true-iff (leb (2 ^ t f * 16 ^ q) ((16 + f) ^ q)) (leb ((17 + f) ^ q) (2 ^ (t f + e) * 16 ^ q)) .0
+        (all-true 16 (within q e t) tested f (nextFour-lt p))
 
-  twos : (g : ℕ) → 2 ^ g * 16 ^ 16 * 2 ^ (16 * m) ≡ 2 ^ (16 * m + g) * 16 ^ 16
-  twos g =
-      mul-right-comm (2 ^ g) (16 ^ 16) (2 ^ (16 * m))
-      ∙ ap (λ (z : ℕ). z * 16 ^ 16) (mul-comm (2 ^ g) (2 ^ (16 * m)) ∙ sym (pow-add 2 (16 * m) g))
+    powers : (k : ℕ) → (k * 2 ^ m) ^ q ≡ k ^ q * 2 ^ (q * m)
+    powers k = mul-pow k (2 ^ m) q ∙ ap (λ (z : ℕ). k ^ q * z) (sym (pow-mul 2 m q) ∙ ap (λ (z : ℕ). 2 ^ z) (mul-comm m q))
 
-  -- 2 ^ A is at most p ^ 16
-  pub logarithm-low : 2 ^ logarithm p ≤ p ^ 16
-  unfolding logarithm
-  logarithm-low =
-      le-of-mul-le-mul-right
-      (le-trans (le-of-eq (sym (twos f)))
-      (le-trans (mul-le-mul-right (2 ^ (16 * m)) (digit-low f (nextFour-lt p)))
-      (le-trans (le-of-eq (sym (powers (16 + f))))
-      (le-trans (pow-le-pow-left lower 16)
-      (le-of-eq (mul-pow p 16 16))))))
-      (pow-pos 64)
+    twos : (g : ℕ) → 2 ^ g * 16 ^ q * 2 ^ (q * m) ≡ 2 ^ (q * m + g) * 16 ^ q
+    twos g =
+        mul-right-comm (2 ^ g) (16 ^ q) (2 ^ (q * m))
+        ∙ ap (λ (z : ℕ). z * 16 ^ q) (mul-comm (2 ^ g) (2 ^ (q * m)) ∙ sym (pow-add 2 (q * m) g))
 
-  -- and p ^ 16 at most 2 ^ (A + 3)
-  pub logarithm-high : p ^ 16 ≤ 2 ^ (logarithm p + 3)
-  unfolding logarithm
-  logarithm-high =
-      le-of-mul-le-mul-right
-      (le-trans (le-of-eq (sym (mul-pow p 16 16)))
-      (le-trans (pow-le-pow-left upper 16)
-      (le-trans (le-of-eq (powers (17 + f)))
-      (le-trans (mul-le-mul-right (2 ^ (16 * m)) (digit-high f (nextFour-lt p)))
-      (le-of-eq (twos (f + 3) ∙ ap (λ (z : ℕ). 2 ^ z * 16 ^ 16) (sym (add-assoc (16 * m) f 3))))))))
-      (pow-pos 64)
+    scale-pos : 0 < 16 ^ q
+    scale-pos = subst (λ (z : ℕ). 0 < z) (pow-mul 2 4 q) (pow-pos (4 * q))
+
+    unit-low : 2 ^ (q * m + t f) ≤ p ^ q
+    unit-low =
+        le-of-mul-le-mul-right
+        (le-trans (le-of-eq (sym (twos (t f))))
+        (le-trans (mul-le-mul-right (2 ^ (q * m)) (leb-true _ _ (passes .0)))
+        (le-trans (le-of-eq (sym (powers (16 + f))))
+        (le-trans (pow-le-pow-left lower q)
+        (le-of-eq (mul-pow p 16 q))))))
+        scale-pos
+
+    unit-high : p ^ q ≤ 2 ^ (q * m + t f + e)
+    unit-high =
+        le-of-mul-le-mul-right
+        (le-trans (le-of-eq (sym (mul-pow p 16 q)))
+        (le-trans (pow-le-pow-left upper q)
+        (le-trans (le-of-eq (powers (17 + f)))
+        (le-trans (mul-le-mul-right (2 ^ (q * m)) (leb-true _ _ (passes .1)))
+        (le-of-eq (twos (t f + e) ∙ ap (λ (z : ℕ). 2 ^ z * 16 ^ q) (sym (add-assoc (q * m) (t f) e))))))))
+        scale-pos
+
+-- the unit of weights, its slack and its table pass
+tested : all 16 (within unit slack table) ≡ true
+unfolding all within
+tested = refl
+
+-- p to the power of the unit is 2 ^ A at least
+pub logarithm-low : (p : ℕ) → 0 < p → 2 ^ logarithm p ≤ p ^ unit
+unfolding logarithm
+logarithm-low p some = unit-low p some unit slack table tested
+
+-- and 2 ^ (A + the slack) at most
+pub logarithm-high : (p : ℕ) → 0 < p → p ^ unit ≤ 2 ^ (logarithm p + slack)
+unfolding logarithm
+logarithm-high p some = unit-high p some unit slack table tested

@@ -7,6 +7,7 @@ use Rattle.trail.specs.WellFormed.{WellFormedLine}
 use Rattle.trail.specs.Kinds.{kindOf}
 use Rattle.differential.specs.declared.Differential.{Differential}
 use Rattle.differential.specs.Fits.{fits, fitting, fittingPairs}
+use Rattle.differential.specs.Unit.{unit, slack}
 use Rattle.differential.specs.Report.{Report, reporting, reportOf}
 use Rattle.differential.specs.Report.Reporting.{linear, twoWords, constant}
 
@@ -18,17 +19,17 @@ pub record Proper (d : Differential) : Type 0 where
   pub word : ℕ
   pub line-right : WellFormedLine (d .width) word (d .line)
 
--- the exact number N of fitting words, weight w in sixteenths and chain count c
+-- the exact number N of fitting words; its weight w in sixteenths and chain count c obey 2^(16n-w) <= N^16 <= 2^(16n-w+3c)
 pub record CountedRight (n N w c : ℕ) : Type 0 where
   pub some : 0 < N
-  pub weight-most : w ≤ 16 * n
-  pub low : 2 ^ (16 * n - w) ≤ N ^ 16
-  pub high : N ^ 16 ≤ 2 ^ (16 * n - w + 3 * c)
+  pub weight-most : w ≤ unit * n
+  pub low : 2 ^ (unit * n - w) ≤ N ^ unit
+  pub high : N ^ unit ≤ 2 ^ (unit * n - w + slack * c)
 
 -- w whole bits where 2 ^ (2n - w) pairs fit
 pub record HalvesRight (n pairs weight : ℕ) : Type 0 where
   pub bits : ℕ
-  pub weight-is : weight ≡ 16 * bits
+  pub weight-is : weight ≡ unit * bits
   pub bits-less : bits < n
   pub pairs-fit : pairs ≡ 2 ^ (2 * n - bits)
 

@@ -2,6 +2,7 @@ pub mod Fits
 pub mod TwoWords
 pub mod Carries
 pub mod Constant
+pub mod Unit
 pub mod Logarithm
 pub mod Weight
 pub mod Report

@@ -2,6 +2,7 @@
 use Prim.Native.Nat.{ℕ, zero, suc, _+_, _-_, _*_}
 use mathlib.Core.Bool.{cond}
 use Rattle.words.specs.Words.{bit, bitBelow, fromBits}
+use Rattle.differential.specs.Unit.{unit, table}
 
 -- the place of the highest one among a number's lowest b bits, 0 if there is none
 unfoldable pub highestOneBelow : ℕ → ℕ → ℕ
@@ -18,4 +19,4 @@ nextFour p = fromBits 4 (λ j. bitBelow (4 - j) p (highestOne p))
 
 -- A = 16 M + F
 unfoldable pub logarithm : ℕ → ℕ
-logarithm p = 16 * highestOne p + nextFour p
+logarithm p = unit * highestOne p + table (nextFour p)

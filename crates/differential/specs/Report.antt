@@ -10,6 +10,7 @@ use Rattle.differential.specs.declared.Differential.{Differential}
 use Rattle.differential.specs.Fits.{fitting}
 use Rattle.differential.specs.TwoWords.{wordsImpossible, wordsWeight}
 use Rattle.differential.specs.Constant.{chains}
+use Rattle.differential.specs.Unit.{unit}
 use Rattle.differential.specs.Weight.{constantWeight}
 use Rattle.differential.specs.declared.LineReport.{LineReport}
 use Rattle.differential.specs.declared.LineReport.the-variants.{Impossible, Certain, Halves, Counted}
@@ -29,7 +30,7 @@ certain = record { number = 1; chains = 0; weight = 0; fitting = 0 }
 
 -- halves cost whole bits, 16 sixteenths each
 abbrev pub halves : ℕ → Report
-halves bits = record { number = 2; chains = 0; weight = 16 * bits; fitting = 0 }
+halves bits = record { number = 2; chains = 0; weight = unit * bits; fitting = 0 }
 
 abbrev pub counted : ℕ → ℕ → ℕ → Report
 counted weight c n = record { number = 3; chains = c; weight = weight; fitting = n }

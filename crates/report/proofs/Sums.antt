@@ -8,6 +8,7 @@ use lib.Dec.{eqb}
 use Rattle.words.specs.Below.{count, total}
 use Rattle.words.proofs.Bits.{value-lt}
 use Rattle.trail.specs.Trail.{Trail}
+use Rattle.differential.specs.Unit.{unit}
 use Rattle.differential.specs.Report.{impossible, certain, halves, counted}
 use Rattle.report.specs.Lines.{lineReport}
 use Rattle.report.specs.Totals.{Sums, rangeTotals, withReport, SmallReport}
@@ -25,7 +26,7 @@ module _ (s : Sums) where
   pub with-certain : s ≡ withReport s certain
   with-certain = same-sums (sym (add-zero (s .impossible))) (sym (add-zero (s .weight))) (sym (add-zero (s .chains)))
 
-  pub with-halves : (bits : ℕ) {cost : ℕ} → cost ≡ 16 * bits
+  pub with-halves : (bits : ℕ) {cost : ℕ} → cost ≡ unit * bits
       → record { impossible = s .impossible; weight = s .weight + cost; chains = s .chains } ≡ withReport s (halves bits)
   with-halves bits e = same-sums (sym (add-zero (s .impossible))) (ap (λ (w : ℕ). s .weight + w) e) (sym (add-zero (s .chains)))
 
@@ -38,7 +39,7 @@ module _ (s : Sums) where
 -- the totals of k lines
 pub record SmallSums (k : ℕ) (s : Sums) : Type 0 where
   pub impossible : s .impossible ≤ k
-  pub weight : s .weight ≤ 512 * k
+  pub weight : s .weight ≤ unit * 32 * k
   pub chains : s .chains ≤ 32 * k
 
 module _ (t : Trail) where

@@ -1,9 +1,10 @@
 -- The totals of a range of lines (document 01, "Line reports").
-use Prim.Native.Nat.{ℕ, _+_, _≤_, _^_}
+use Prim.Native.Nat.{ℕ, _+_, _*_, _≤_, _^_}
 use lib.Dec.{eqb}
 use Rattle.words.specs.Words.{value}
 use Rattle.words.specs.Below.{count, total}
 use Rattle.trail.specs.Trail.{Trail, lineCount}
+use Rattle.differential.specs.Unit.{unit}
 use Rattle.differential.specs.Report.{Report}
 use Rattle.report.specs.Lines.{lineReport}
 use Rattle.report.specs.declared.Totals.{Totals}
@@ -42,6 +43,6 @@ withReport s r = record {
 
 -- a report's values at widths up to 32
 pub record SmallReport (r : Report) : Type 0 where
-  pub weight : r .weight ≤ 512
+  pub weight : r .weight ≤ unit * 32
   pub chains : r .chains ≤ 32
   pub fitting : r .fitting ≤ 2 ^ 32

@@ -1,4 +1,4 @@
--- `in_sixteenths` is times 16.
+-- `in_sixteenths` is times the unit.
 use borrow.Author.Needs.{needs}
 use Rattle.differential.proofs.units.in_sixteenths.Statement.{statement}
 use Rattle.differential.proofs.units.in_sixteenths.Tie as tie
