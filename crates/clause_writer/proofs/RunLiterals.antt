@@ -1,6 +1,6 @@
 -- The literals of a run as the code makes them, and which difference signs which word.
-use Prim.Native.Nat.{ℕ, zero, suc, _+_, _*_, _/_, _%_, _^_, _≤_, _<_}
-use native.Mathlib.Nat.{mul-le-mul}
+use Prim.Native.Nat.{ℕ, zero, suc, _+_, _-_, _*_, _/_, _%_, _^_, _≤_, _<_}
+use native.Mathlib.Nat.{mul-le-mul-left}
 use native.Mathlib.Decide.{ℕ-discrete}
 use native.Mathlib.Omega.{arith}
 use mathlib.Core.Path.{_≡_, refl, sym, ap, _∙_, subst}
@@ -12,6 +12,7 @@ use lib.IntN.{ℤ, pos, negℤ, _-ℤ_}
 use mir.Syntax.{w32}
 use mir.Val.{toZ, ofZ}
 use Rattle.words.specs.Words.{bit}
+use Rattle.trail.specs.WellFormed.{mostWords}
 use Rattle.trail.proofs.Runs.{second-below}
 use Rattle.cnf.proofs.Signs.{same, negated}
 use Rattle.clause_writer.specs.declared.LineRun.{LineRun}
@@ -30,15 +31,15 @@ made-held {l} {m} h = let e = same m (h .1) in (e ∙ h .0, subst CanNegate (sym
 
 -- ---- bit i of word j of n bits, signed by a difference d
 
-module _ (n j d i : ℕ) (hn : n ≤ 32) (hj : j < 256) (hi : i < n) where
-  pub variable-most : n * j + i + 1 ≤ 8192
-  variable-most = let most : j ≤ 255 = omega arith in omega (arith, mul-le-mul hn most)
+module _ (n j d i : ℕ) (hn : n ≤ 64) (hj : j < mostWords) (hi : i < n) where
+  pub variable-most : n * j + i + 1 ≤ 64 * mostWords
+  variable-most = let most : j ≤ mostWords - 1 = omega arith in omega (arith, mul-le-mul-left n most)
 
   signed-small : CanNegate (signedLiteral n j d i)
   unfolding signedLiteral
   signed-small = at (bit d i) (n * j + i + 1) variable-most
     where
-      at : (b : Bool) (v : ℕ) → v ≤ 8192 → CanNegate (cond b (negℤ (pos v)) (pos v))
+      at : (b : Bool) (v : ℕ) → v ≤ 64 * mostWords → CanNegate (cond b (negℤ (pos v)) (pos v))
       at true zero h = omega arith
       at true (suc v) h = omega arith
       at false v h = omega arith

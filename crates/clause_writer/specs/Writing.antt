@@ -9,12 +9,13 @@ use lib.IntN.{ℤ, pos, negℤ}
 use lib.Signed.{mag}
 use Rattle.words.specs.Words.{bit}
 use Rattle.trail.specs.Kinds.{kindOf}
-use Rattle.trail.specs.WellFormed.{WellFormedLine}
+use Rattle.trail.specs.WellFormed.{WellFormedLine, mostWords}
 use Rattle.cnf.specs.Formulas.{numbers}
 use Rattle.cnf.specs.Gates.{Input, literals, valuesIn, gate}
 use Rattle.cnf.specs.Tables.{tableGate, Small}
 use Rattle.clause_lists.specs.Kinds.{parity, twoOrMore, Taken, gates, hasCarries, takenInput, otherInputs, carryInputs}
 use Rattle.clause_lists.specs.Lists.{inputs, bitClauses, runClauses}
+use Rattle.clause_lists.specs.Limits.{mostVariables}
 use Rattle.clause_writer.specs.declared.LineRun.{LineRun}
 use Rattle.clause_writer.specs.declared.inputs.Inputs.{Inputs}
 
@@ -98,11 +99,12 @@ tiedBy g output table = numbers (tableGate (gathered g ++ (output ∷ [])) table
 abbrev pub IsTable : (List Bool → Bool) → List Input → ℕ → Type 0
 IsTable f is table = (row : ℕ) → row < 2 ^ (length (literals is) + 1) → f (valuesIn is row) ≡ bit table (row / 2)
 
--- the run is that of a well-formed line of at most 32 bits, and of a word named twice both differences are the same
+-- the run is that of a well-formed line of at most 64 bits, its word and the variables before its carries are within a trail's
+-- limits, and of a word named twice both differences are the same
 pub record ProperRun (r : LineRun) : Type 0 where
   pub width-least : 2 ≤ r .width
-  pub width-most : r .width ≤ 32
-  pub word-most : r .word < 256
-  pub carries-most : r .carries ≤ 23568
+  pub width-most : r .width ≤ 64
+  pub word-most : r .word < mostWords
+  pub carries-most : r .carries ≤ mostVariables (r .width)
   pub line-right : WellFormedLine (r .width) (r .word) (r .line)
   pub alike : r .line .first ≡ r .line .second → r .first ≡ r .second

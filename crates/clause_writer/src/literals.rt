@@ -1,6 +1,7 @@
 // The literals of a run.
 ghost use mathlib.Core.Path.{_≡_};
 ghost use Prim.Native.Nat.{_≤_, _<_};
+ghost use Rattle.trail.specs.WellFormed.{mostWords};
 ghost use Rattle.cnf.specs.Gates.Input.{literal};
 ghost use Rattle.clause_lists.specs.Kinds.Taken.{bitAt};
 ghost use Rattle.clause_writer.specs.Writing.{ProperRun, signedLiteral, takenAt, takenIn, wordIn, carryIn, CanNegate};
@@ -8,7 +9,7 @@ use crate::LineRun;
 
 // Bit i of a word of n bits: its variable, negated where that bit of the difference is 1.
 fn bit_literal(n: u32, word: usize, difference: u64, i: u32) -> i32
-    requires { ⌜ (n ≤ 32) × (word < 256) × (i < n) ⌝ }
+    requires { ⌜ (n ≤ 64) × (word < mostWords) × (i < n) ⌝ }
     ensures { λ r. ⌜ (r ≡ signedLiteral n word difference i) × CanNegate r ⌝ }
 {
     let variable = (n * word as u32 + i + 1) as i32;

@@ -34,5 +34,5 @@ every-sheet-counts-right s accepts buffers long =
     record {
       clauses-written = ap (λ l. length (clausesOf l)) same ∙ clauses-joined t;
       names-last = subst (NamesLast t) (sym same) (every-trail-pairs t good .names-last);
-      within-limits = limits-right .never-passed t good (accepted-sized Read s accepts);
+      within-limits = limits-right .never-passed 32 t good (accepted-sized Read s accepts);
     }

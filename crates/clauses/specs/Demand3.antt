@@ -64,7 +64,7 @@ EverySheetPairs = (s : List ℕ) → IsAccepted s → (buffers : ℕ → List �
 pub record CountsRight (s : List ℕ) (buffers : ℕ → List ℤ) : Type 0 where
   pub clauses-written : length (clausesOf (joinedList s buffers)) ≡ clauseCount (trailOf s)
   pub names-last : NamesLast (trailOf s) (joinedList s buffers)
-  pub within-limits : WithinLimits (trailOf s)
+  pub within-limits : WithinLimits 32 (trailOf s)
 
 abbrev pub EverySheetCountsRight : Type 0
 EverySheetCountsRight = (s : List ℕ) → IsAccepted s → (buffers : ℕ → List ℤ) → LongEnough s buffers → CountsRight s buffers

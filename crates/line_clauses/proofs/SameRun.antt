@@ -12,6 +12,7 @@ use Rattle.words.proofs.Bits.{bit-xor, xor-self}
 use Rattle.trail.specs.declared.Line.{Line}
 use Rattle.trail.specs.Kinds.{kindOf, usesSecond, usesConstant}
 use Rattle.trail.specs.Trail.{Trail, lineAt, differenceAt}
+use Rattle.trail.specs.WellFormed.{mostWords}
 use Rattle.trail.proofs.Differences.{difference-line}
 use Rattle.cnf.specs.Gates.{Input, gate}
 use Rattle.cnf.specs.Gates.Input.{literal, known}
@@ -21,6 +22,7 @@ use Rattle.clause_lists.specs.Kinds.Carries.{none, made}
 use Rattle.clause_lists.specs.Variables.{Run, bitVariable, variablesBefore, carryVariable, bitLiteral, carryLiteral}
 use Rattle.clause_lists.specs.Variables.Run.{firstRun, secondRun}
 use Rattle.clause_lists.specs.Lists.{inputs, nextClauses, bitClauses, runClauses, clausesIn}
+use Rattle.clause_lists.specs.Limits.{mostVariables}
 use Rattle.sheet.specs.declared.Header.{Header}
 use Rattle.sheet.specs.Fields.{trailOf}
 use Rattle.sheet.specs.Facts.{SheetRead}
@@ -101,12 +103,10 @@ module _ (s : List ℕ) (h : Header) (read : SheetRead s h) (k : ℕ) (less : k 
         (word ∙ ap (λ (m : ℕ). m + k) (sym (read .inputs))) line
 
   module _ (l : Line) (v : ℕ) (line : l ≡ lineAt t k) (before : v ≡ variablesBefore t k) where
-    carries-most : v + (h .width - 1) ≤ 23568
-    carries-most =
-        let limits = read .limits in
-        omega (arith, before-most s h read k, limits .width-most, limits .lines-most)
+    carries-most : v + (h .width - 1) ≤ mostVariables (h .width)
+    carries-most = omega (arith, before-most s h read k less)
 
-    word-most : h .inputs + k < 256
+    word-most : h .inputs + k < mostWords
     word-most = let limits = read .limits in omega (arith, limits .inputs-most, limits .lines-most)
 
     -- ---- the first run: no literal is negated
@@ -117,7 +117,7 @@ module _ (s : List ℕ) (h : Header) (read : SheetRead s h) (k : ℕ) (less : k 
     first-proper : ProperRun firstOf
     first-proper = record {
       width-least = read .limits .width-least;
-      width-most = read .limits .width-most;
+      width-most = omega (arith, read .limits .width-most);
       word-most = word-most;
       carries-most = omega (arith, carries-most);
       line-right = line-at-right s h read k less line;
@@ -164,7 +164,7 @@ module _ (s : List ℕ) (h : Header) (read : SheetRead s h) (k : ℕ) (less : k 
       second-proper : ProperRun secondOf
       second-proper = record {
         width-least = read .limits .width-least;
-        width-most = read .limits .width-most;
+        width-most = omega (arith, read .limits .width-most);
         word-most = word-most;
         carries-most = carries-most;
         line-right = line-at-right s h read k less line;

@@ -1,7 +1,7 @@
 -- The counts of an accepted sheet, line by line, and their limits.
 use Prim.Native.Nat.{ℕ, _+_, _-_, _*_, _<_, _≤_}
 use native.Mathlib.Decide.{le-ind}
-use native.Mathlib.Nat.{mul-le-mul}
+use native.Mathlib.Nat.{mul-le-mul-left}
 use native.Mathlib.Numerals.{add-one}
 use native.Mathlib.Omega.{arith}
 use mathlib.Core.Path.{_≡_, refl, sym, ap, ap₂, _∙_}
@@ -13,10 +13,11 @@ use Rattle.words.specs.Below.{count, total}
 use Rattle.words.proofs.Below.{count-le}
 use Rattle.trail.specs.declared.Line.{Line}
 use Rattle.trail.specs.Trail.{lineCount, lineAt}
+use Rattle.trail.specs.WellFormed.{mostLines, mostWords}
 use Rattle.clause_lists.specs.Variables.{adds, variablesBefore, variables}
 use Rattle.clause_lists.specs.Lists.{lineClauses, lineList, clauseCount}
 use Rattle.clause_lists.specs.Sizes.{gateCounts, sizeOf, clausesOfGate, numbersOfGate}
-use Rattle.clause_lists.specs.Limits.{mostClauses}
+use Rattle.clause_lists.specs.Limits.{mostVariables, mostClauses}
 use Rattle.clause_lists.proofs.Lengths.{line-clauses-length, line-list-length}
 use Rattle.clause_lists.proofs.Limits.{clauses-count-most}
 use Rattle.sheet.specs.declared.Header.{Header}
@@ -53,7 +54,7 @@ total-upto f i n h = le-ind (λ m. total i f ≤ total m f) (omega arith) (λ m 
 -- ---- of a sheet that was read
 
 module _ (s : List ℕ) (h : Header) (read : SheetRead s h) where
-  -- the variables before line k: 32 * 256 of words at most, and 62 of carries for each line
+  -- the variables before line k: those of the words, and those of both runs' carries for each line with carries
   pub variables-are : (k found : ℕ) → found ≡ count k (adds (trailOf s))
       → h .width * (h .inputs + h .lines) + 2 * (h .width - 1) * found ≡ variablesBefore (trailOf s) k
   unfolding variablesBefore
@@ -61,22 +62,21 @@ module _ (s : List ℕ) (h : Header) (read : SheetRead s h) where
       let width = sym (read .width) in
       ap₂ _+_ (ap₂ _*_ width (ap₂ _+_ (sym (read .inputs)) (sym (read .lines)))) (ap₂ (λ (n c : ℕ). 2 * (n - 1) * c) width e)
 
-  pub word-variables-most : h .width * (h .inputs + h .lines) ≤ 8192
+  pub word-variables-most : h .width * (h .inputs + h .lines) ≤ h .width * mostWords
   word-variables-most =
       let limits = read .limits in
-      let both : h .inputs + h .lines ≤ 256 = omega (arith, limits .inputs-most, limits .lines-most) in
-      omega (arith, mul-le-mul (limits .width-most) both)
+      mul-le-mul-left (h .width) (omega (arith, limits .inputs-most, limits .lines-most))
 
-  pub carry-variables-most : (k found : ℕ) → found ≡ count k (adds (trailOf s)) → 2 * (h .width - 1) * found ≤ 62 * k
-  carry-variables-most k found e =
-      let narrow : 2 * (h .width - 1) ≤ 62 = omega (arith, read .limits .width-most) in
-      let few : found ≤ k = omega (arith, count-le k (adds (trailOf s))) in
-      mul-le-mul narrow few
+  pub carry-variables-most : (most k found : ℕ) → k ≤ most → found ≡ count k (adds (trailOf s))
+      → 2 * (h .width - 1) * found ≤ 2 * (h .width - 1) * most
+  carry-variables-most most k found few e = mul-le-mul-left (2 * (h .width - 1)) (omega (arith, count-le k (adds (trailOf s))))
 
-  pub before-most : (k : ℕ) → variablesBefore (trailOf s) k ≤ 8192 + 62 * k
-  before-most k =
+  -- and the first run's carries of line k
+  pub before-most : (k : ℕ) → k < h .lines → variablesBefore (trailOf s) k + (h .width - 1) ≤ mostVariables (h .width)
+  before-most k less =
+      let few : k ≤ mostLines - 1 = omega (arith, read .limits .lines-most) in
       rw (← variables-are k (count k (adds (trailOf s))) refl)
-      (omega (arith, word-variables-most, carry-variables-most k (count k (adds (trailOf s))) refl))
+      (omega (arith, word-variables-most, carry-variables-most (mostLines - 1) k (count k (adds (trailOf s))) few refl))
 
   -- the size of a line's list, as the code measures it
   pub size-is : (ofGate : ℕ → ℕ) (k : ℕ) {l : Line} {r : ℕ} → l ≡ lineAt (trailOf s) k → r ≡ sizeOf ofGate (gateCounts (h .width) l)
@@ -91,13 +91,13 @@ module _ (s : List ℕ) (h : Header) (read : SheetRead s h) where
       → r ≡ sizeOf numbersOfGate (gateCounts (h .width) l) → r ≡ length (lineList (trailOf s) k)
   numbers-are k less e d = size-is numbersOfGate k e d ∙ sym (line-list-length (read .well-formed) k (omega arith))
 
-  pub clauses-upto : (k : ℕ) → k ≤ h .lines → total k (λ i. length (lineClauses (trailOf s) i)) ≤ mostClauses
+  pub clauses-upto : (k : ℕ) → k ≤ h .lines → total k (λ i. length (lineClauses (trailOf s) i)) ≤ mostClauses 32
   unfolding clauseCount
   clauses-upto k l =
       omega (
         arith,
         total-upto (λ i. length (lineClauses (trailOf s) i)) k (lineCount (trailOf s)) (omega (arith, read .lines)),
-        clauses-count-most (read .well-formed) (accepted-sized Read s (read .accepted)),
+        clauses-count-most 32 (accepted-sized Read s (read .accepted)) (read .well-formed),
       )
 
   pub clauses-all : (k : ℕ) {sum : ℕ} → k ≡ h .lines → sum ≡ total k (λ i. length (lineClauses (trailOf s) i))

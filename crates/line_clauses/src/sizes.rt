@@ -15,7 +15,7 @@ pub(crate) struct ListSize {
 // The size of a line's list. Without carries both runs have a gate for each bit; with carries two gates in bit 0, which no carry
 // enters, two in each bit above, and one in the last.
 pub(crate) fn list_size(line: Line, n: u32) -> ListSize
-    requires { ⌜ (2 ≤ n) × (n ≤ 32) ⌝ }
+    requires { ⌜ (2 ≤ n) × (n ≤ 64) ⌝ }
     ensures { λ r. ⌜ (r .clauses ≡ sizeOf clausesOfGate (gateCounts n line)) × (r .numbers ≡ sizeOf numbersOfGate (gateCounts n line)) ⌝ }
 {
     let kind = line.kind;
@@ -33,7 +33,7 @@ pub(crate) fn list_size(line: Line, n: u32) -> ListSize
 
 // The size of so many gates with one, two and three literals among their inputs.
 fn of_gates(one: u32, two: u32, three: u32) -> ListSize
-    requires { ⌜ (one ≤ 128) × (two ≤ 128) × (three ≤ 128) ⌝ }
+    requires { ⌜ (one ≤ 256) × (two ≤ 256) × (three ≤ 256) ⌝ }
     ensures { λ r. ⌜ (r .clauses ≡ 2 * one + 4 * two + 8 * three) × (r .numbers ≡ 6 * one + 16 * two + 40 * three) ⌝ }
 {
     ListSize {

@@ -10,7 +10,7 @@ use words::rotate_right;
 
 // Certain if the stated difference is the one that the operands' differences give, else impossible.
 pub(crate) fn certain_if(d: Differential) -> LineReport
-    requires { ⌜ Proper d × (d .width ≤ 32) ⌝ }
+    requires { ⌜ Proper d × (d .width ≤ 64) ⌝ }
     ensures { λ r. ⌜ reportMeans r ≡ certainIf (d .line .difference) (givenDifference d) ⌝ }
 {
     let line = d.line;
@@ -23,7 +23,7 @@ pub(crate) fn certain_if(d: Differential) -> LineReport
 
 // The XOR, copy or rotation of the operands' differences; a line of another kind gives none, written 0.
 fn given_difference(d: Differential) -> u64
-    requires { ⌜ Proper d × (d .width ≤ 32) ⌝ }
+    requires { ⌜ Proper d × (d .width ≤ 64) ⌝ }
     ensures { λ r. ⌜ r ≡ givenDifference d ⌝ }
 {
     let line = d.line;

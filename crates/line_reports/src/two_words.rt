@@ -10,7 +10,7 @@ use words::mask;
 
 // Halves with their weight, or impossible.
 pub(crate) fn words_report(n: u32, alpha: u64, beta: u64, gamma: u64) -> LineReport
-    requires { ⌜ (2 ≤ n) × (n ≤ 32) ⌝ }
+    requires { ⌜ (2 ≤ n) × (n ≤ 64) ⌝ }
     ensures { λ r. ⌜ reportMeans r ≡ wordsReport n alpha beta gamma ⌝ }
 {
     if clash(n, alpha, beta, gamma) {

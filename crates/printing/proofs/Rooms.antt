@@ -10,15 +10,16 @@ use Rattle.sheet.specs.Fields.{trailOf}
 use Rattle.sheet.specs.Facts.{SheetRead}
 use Rattle.sheet.proofs.WellFormed.{accepted-sized}
 use Rattle.clause_lists.specs.Lists.{lineList}
+use Rattle.clause_lists.specs.Limits.{mostNumbers}
 use Rattle.clause_lists.proofs.Limits.{within-limits}
 use Rattle.report.specs.Lines.{lineReport}
 use Rattle.report_buffer.specs.Buffer.{sheetBytes}
 use Rattle.report_buffer.proofs.ReportBytes.{reports-place}
 
 module _ {s : List ℕ} {h : Header} (read : SheetRead s h) where
-  pub list-most : (k : ℕ) → k < h .lines → length (lineList (trailOf s) k) ≤ 4944
+  pub list-most : (k : ℕ) → k < h .lines → length (lineList (trailOf s) k) ≤ mostNumbers 32
   list-most k less =
-      within-limits (read .well-formed) (accepted-sized Read s (read .accepted)) .numbers-most k (omega (arith, read .lines))
+      within-limits 32 (accepted-sized Read s (read .accepted)) (read .well-formed) .numbers-most k (omega (arith, read .lines))
 
   -- the position behind the reports of all lines
   pub reports-end : {l : List ℕ} {p : ℕ} {out : List ℕ} → Wrote 0 (sheetBytes (trailOf s)) l p out → p ≤ 3968

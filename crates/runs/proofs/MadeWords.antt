@@ -13,18 +13,18 @@ use Rattle.words.proofs.Below.{below-suc}
 use Rattle.words.proofs.Bits.{bit-xor}
 use Rattle.trail.specs.Kinds.{makes}
 use Rattle.trail.specs.Trail.{Trail, inputCount, lineCount, lineAt}
-use Rattle.trail.specs.WellFormed.{WellFormed}
+use Rattle.trail.specs.WellFormed.{WellFormed, mostWords}
 use Rattle.trail.specs.Runs.{wordOfLine, runWord, partner, isStart}
 use Rattle.trail.proofs.Runs.{second-below, run-line, run-word, partner-start}
 use Rattle.runs.specs.Outcome.{resultDifference, disagrees}
 use Rattle.runs.specs.Facts.{Holds, Made, withLine}
 
 module _ (t : Trail) (x : List ℕ) where
-  pub made-none : (words : List ℕ) → length words ≡ 256 → Made t x 0 words
+  pub made-none : (words : List ℕ) → length words ≡ mostWords → Made t x 0 words
   made-none words e = record { room = e; same = below-none (λ j. getD words j 0 ≡ runWord t x j) }
 
   -- the next word in its place
-  pub made-next : (made word : ℕ) (words : List ℕ) → made < 256 → Made t x made words → word ≡ runWord t x made → Made t x (made + 1) (set words made word)
+  pub made-next : (made word : ℕ) (words : List ℕ) → made < mostWords → Made t x made words → word ≡ runWord t x made → Made t x (made + 1) (set words made word)
   made-next made word words less m e = record {
     room = length-set words made word ∙ m .room;
     same = λ j l. below-suc (λ j. getD (set words made word) j 0 ≡ runWord t x j) made
@@ -49,7 +49,7 @@ module _ {t : Trail} (good : WellFormed t) (x : List ℕ) (start : isStart t x �
       (m .same (lineAt t k .second) (second-below (good .lines-right k h)))
       ∙ sym (run-line good x start k h)
 
-  pub made-line : (k : ℕ) {words after : List ℕ} → k < lineCount t → inputCount t + k < 256 → Made t x (inputCount t + k) words
+  pub made-line : (k : ℕ) {words after : List ℕ} → k < lineCount t → inputCount t + k < mostWords → Made t x (inputCount t + k) words
       → after ≡ withLine t k words → Made t x (inputCount t + (k + 1)) after
   made-line k {words} h less m e =
       subst (Made t x (inputCount t + (k + 1))) (sym e)

@@ -4,16 +4,17 @@ use mathlib.Core.Path.{_≡_}
 use mathlib.Core.List.{List}
 use lib.ListN.{length, getD, set}
 use Rattle.trail.specs.Trail.{Trail, inputCount}
+use Rattle.trail.specs.WellFormed.{mostWords}
 use Rattle.trail.specs.Runs.{wordOfLine, runWord}
 
 -- the words made so far, the first ones, are words of n bits
 pub record Holds (n made : ℕ) (words : List ℕ) : Type 0 where
-  pub room : length words ≡ 256
+  pub room : length words ≡ mostWords
   pub word : (j : ℕ) → j < made → getD words j 0 < 2 ^ n
 
 -- they are the words of the run from x
 pub record Made (t : Trail) (x : List ℕ) (made : ℕ) (words : List ℕ) : Type 0 where
-  pub room : length words ≡ 256
+  pub room : length words ≡ mostWords
   pub same : (j : ℕ) → j < made → getD words j 0 ≡ runWord t x j
 
 -- the array with line k's word

@@ -6,7 +6,7 @@ ghost use lib.Bits.{bitXor};
 ghost use lib.ListN.{getD, set};
 ghost use Rattle.trail.specs.Kinds.{makes};
 ghost use Rattle.trail.specs.Trail.{lineAt};
-ghost use Rattle.trail.specs.WellFormed.{WellFormedLine};
+ghost use Rattle.trail.specs.WellFormed.{WellFormedLine, mostWords};
 ghost use Rattle.trail.specs.Runs.{wordOfLine, isStart};
 ghost use Rattle.sheet.specs.Fields.{trailOf};
 ghost use Rattle.sheet.specs.Facts.{SheetRead};
@@ -66,7 +66,7 @@ fn run_line(sheet: &[u8], header: Header, k: usize, first: &mut Words, second: &
 
 // Makes a line's word in one run, from the words before it.
 fn make_word(n: u32, line: Line, word: usize, words: &mut Words) -> u64
-    requires { ⌜ (1 ≤ n) × (n ≤ 64) × (word < 256) × WellFormedLine n word line × Holds n word (now words) ⌝ }
+    requires { ⌜ (1 ≤ n) × (n ≤ 64) × (word < mostWords) × WellFormedLine n word line × Holds n word (now words) ⌝ }
     ensures { λ r. ⌜ (r ≡ makes n line (getD (now (words .entry)) (line .first) 0) (getD (now (words .entry)) (line .second) 0))
         × (now (words .exit) ≡ set (now (words .entry)) word r) ⌝ }
 {

@@ -3,6 +3,7 @@ ghost use mathlib.Core.Path.{_≡_};
 ghost use mathlib.Core.Bool.{true};
 ghost use lib.ListN.{length};
 ghost use Rattle.trail.specs.Trail.{Trail, inputCount};
+ghost use Rattle.trail.specs.WellFormed.{mostWords};
 ghost use Rattle.trail.specs.Runs.{isStart, partner};
 ghost use Rattle.sheet.specs.Fields.{trailOf};
 ghost use Rattle.sheet.specs.Facts.{SheetRead, Limited};
@@ -38,8 +39,8 @@ pub(crate) fn begin(
     first: &mut Words,
     second: &mut Words,
 )
-    requires { ⌜ SheetRead (now sheet) header × (isStart (trailOf (now sheet)) (now start) ≡ true) × (length (now first) ≡ 256)
-        × (length (now second) ≡ 256) ⌝ }
+    requires { ⌜ SheetRead (now sheet) header × (isStart (trailOf (now sheet)) (now start) ≡ true)
+        × (length (now first) ≡ mostWords) × (length (now second) ≡ mostWords) ⌝ }
     ensures { λ _. ⌜ Made (trailOf (now (sheet .entry))) (now (start .entry)) (header .inputs) (now (first .exit))
         × Made (trailOf (now (sheet .entry))) (partner (trailOf (now (sheet .entry))) (now (start .entry))) (header .inputs)
         (now (second .exit)) ⌝ }

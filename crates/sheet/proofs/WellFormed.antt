@@ -118,7 +118,7 @@ module _ (mode : Mode) (s : List ℕ) (e : allYes (questions mode s) ≡ true) w
     lines-right = λ k l. line-of k (subst (λ (m : ℕ). k < m) (trail-lines s) l);
   }
 
-  pub accepted-sized : Sized (trailOf s)
+  pub accepted-sized : Sized 32 (trailOf s)
   unfolding trailOf
   accepted-sized = record {
     width-most = accepted-limited .width-most;

@@ -31,8 +31,18 @@ pub record WellFormed (t : Trail) : Type 0 where
   pub inputs-words : (j : ℕ) → j < inputCount t → getD (t .inputs) j 0 < 2 ^ t .width
   pub lines-right : (k : ℕ) → k < lineCount t → WellFormedLine (t .width) (inputCount t + k) (lineAt t k)
 
--- the upper limits, on which only the code's bounds rest
-pub record Sized (t : Trail) : Type 0 where
-  pub width-most : t .width ≤ 32
-  pub inputs-most : inputCount t ≤ 8
-  pub lines-most : lineCount t ≤ 248
+-- how many inputs, lines and words there are at most
+abbrev pub mostInputs : ℕ
+mostInputs = 8
+
+abbrev pub mostLines : ℕ
+mostLines = 248
+
+abbrev pub mostWords : ℕ
+mostWords = mostInputs + mostLines
+
+-- the upper limits, on which only the code's bounds rest: words of at most so many bits
+pub record Sized (most : ℕ) (t : Trail) : Type 0 where
+  pub width-most : t .width ≤ most
+  pub inputs-most : inputCount t ≤ mostInputs
+  pub lines-most : lineCount t ≤ mostLines

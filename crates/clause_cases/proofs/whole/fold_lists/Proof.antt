@@ -7,7 +7,7 @@ use Rattle.clause_cases.proofs.whole.fold_lists.Statement.{statement}
 use Rattle.clause_cases.proofs.whole.fold_lists.Tie as tie
 
 abbrev Inv-loop : tie.InvT-loop
-Inv-loop sheet buffer₀ fold₀ k₀ buffer fold k = (k ≤ 248) × (length buffer ≡ 4944)
+Inv-loop sheet buffer₀ fold₀ k₀ buffer fold k = (k ≤ 248) × (length buffer ≡ length buffer₀)
 
 abbrev μ-loop : tie.MeasureT-loop
 μ-loop sheet buffer₀ fold₀ k₀ buffer fold k = 248 - k

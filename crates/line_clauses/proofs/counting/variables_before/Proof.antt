@@ -1,5 +1,7 @@
 -- The words' variables, and two runs' carries for each line with carries before this one; the limits keep them small.
+use Prim.Native.Nat.{_≤_}
 use native.Mathlib.Omega.{arith}
+use Rattle.trail.specs.WellFormed.{mostLines}
 use Rattle.line_clauses.proofs.SheetCounts.{variables-are, word-variables-most, carry-variables-most}
 use borrow.Author.Needs.{needs}
 use Rattle.line_clauses.proofs.counting.variables_before.Statement.{statement}
@@ -26,15 +28,20 @@ carried-before-requires c κs = search needs
 mul-result-3 : tie.Need-mul-result-3
 mul-result-3 c =
     let start = c .before .before .before in
-    omega (arith, carry-variables-most _ _ (start .pre .0) (start .args .k) (c .carried-before .result) (c .carried-before .ensures))
+    let limits = (start .pre .0) .limits in
+    let few : start .args .k ≤ mostLines = omega (arith, limits .lines-most) in
+    omega (arith, limits .width-most, carry-variables-most _ _ (start .pre .0) mostLines (start .args .k) (c .carried-before .result) few (c .carried-before .ensures))
 
 add-result : tie.Need-add-result
 add-result c =
     let start = c .before .before .before in
+    let limits = (start .pre .0) .limits in
+    let few : start .args .k ≤ mostLines = omega (arith, limits .lines-most) in
     omega (
       arith,
+      limits .width-most,
       word-variables-most _ _ (start .pre .0),
-      carry-variables-most _ _ (start .pre .0) (start .args .k) (c .carried-before .result) (c .carried-before .ensures),
+      carry-variables-most _ _ (start .pre .0) mostLines (start .args .k) (c .carried-before .result) few (c .carried-before .ensures),
     )
 
 returns : tie.Need-returns

@@ -1,7 +1,6 @@
 -- In the second run the ones of a word's difference negate its literals.
 use Prim.Native.Nat.{ℕ}
 use mathlib.Core.Path.{_≡_, sym, ap, _∙_}
-use mathlib.Core.List.{List}
 use native.Mathlib.Omega.{arith}
 use borrow.Author.Needs.{needs}
 use Rattle.trail.specs.declared.Line.{Line}
@@ -45,7 +44,8 @@ add-carries : tie.Need-add-carries
 add-carries c =
     let start = c .before .before .before .before in
     let limits = (start .pre .0) .limits in
-    omega (arith, limits .width-most, limits .lines-most, start .pre .2, before-most (start .args .sheet .now) (start .args .header) (start .pre .0) (start .args .k))
+    let fits = before-most (start .args .sheet .now) (start .args .header) (start .pre .0) (start .args .k) (start .pre .1) in
+    omega (arith, limits .width-most, start .pre .2)
 
 returns : tie.Need-returns
 returns c =

@@ -3,7 +3,6 @@ use mathlib.Core.Bool.{true}
 use mathlib.Core.Logic.{⊎-elim}
 use mathlib.Core.Path.{_≡_, refl, sym, _∙_}
 use Prim.Native.Nat.{_^_, _<_, _≤_}
-use native.Mathlib.Omega.{arith}
 use lib.Bits.{bitXor}
 use Rattle.words.specs.Words.{rotateLeft, rotateRight}
 use Rattle.trail.specs.Kinds.{kindOf, usesAmount}
@@ -16,10 +15,10 @@ use Rattle.line_reports.proofs.linear_kinds.given_difference.Statement.
 use Rattle.line_reports.proofs.linear_kinds.given_difference.Tie as tie
 
 -- what a rotation's code asks
-rotates : {d : Differential} → Proper d → d .width ≤ 32 → usesAmount (kindOf (d .line .kind)) ≡ true
+rotates : {d : Differential} → Proper d → d .width ≤ 64 → usesAmount (kindOf (d .line .kind)) ≡ true
     → (d .width ≤ 64) × (1 ≤ d .line .amount) × (d .line .amount < d .width) × (d .first < 2 ^ d .width)
 rotates proper most used =
-    (omega arith, proper .line-right .amount-least used, proper .line-right .amount-most used, proper .first-word)
+    (most, proper .line-right .amount-least used, proper .line-right .amount-most used, proper .first-word)
 
 rotate-left-requires : tie.Need-rotate-left-requires
 unfolding kindOf

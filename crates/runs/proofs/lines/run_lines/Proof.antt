@@ -8,6 +8,7 @@ use borrow.Author.Needs.{needs}
 use borrow.Author.Count.{below-none, below-more}
 use Rattle.words.specs.Words.{bit}
 use Rattle.trail.specs.Trail.{inputCount, lineCount}
+use Rattle.trail.specs.WellFormed.{mostWords}
 use Rattle.trail.specs.Runs.{partner, lineFollows}
 use Rattle.trail.proofs.Runs.{partner-start}
 use Rattle.sheet.specs.Fields.{trailOf}
@@ -99,7 +100,7 @@ lines-again c =
     let x = start .args .start .now in
     let good = read .well-formed in
     let less : at .k < lineCount t = omega arith in
-    let room : inputCount t + at .k < 256 = omega arith in
+    let room : inputCount t + at .k < mostWords = omega arith in
     let made = c .before .before .run-line .ensures in
     let agrees : (i : ℕ) → i < t .width → disagrees t x (at .k) i ≡ false =
     λ i l. sym (apart-bit good x (start .pre .1) (at .k) less (at .inv .1) (at .inv .2) i)
