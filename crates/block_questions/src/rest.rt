@@ -1,32 +1,46 @@
 // Question 16: the records past the last line, and the bytes after the records.
 ghost use mathlib.Core.Path.{_≡_};
-ghost use Prim.Native.Nat.{_+_, _*_, _-_, _<_, _≤_};
+ghost use Prim.Native.Nat.{_+_, _*_, _-_, _≤_};
 ghost use lib.ListN.{length};
 ghost use Rattle.words.specs.Below.{concat};
+ghost use Rattle.sheet.specs.Form.{recordBytes, recordsInBlock};
+ghost use Rattle.sheet.specs.Blocks.{blockBytes, checkOffset};
 ghost use Rattle.sheet.specs.Asking.{verdict};
-ghost use Rattle.sheet.specs.Questions.{blockRest, restQuestion};
+ghost use Rattle.sheet.specs.Questions.{zeroBytes, blockRest, restQuestion};
 ghost use Rattle.sheet.specs.Answers.{readingMeans};
 ghost use Rattle.sheet.specs.Facts.{Whole};
+use sheet::Form;
 use sheet::Header;
 use sheet::Reading;
 use sheet::refused;
-use sheet_fields::RECORD_BYTES;
+use sheet::sizes::record_bytes;
+use sheet::sizes::records_in_block;
 use sheet_fields::predicates::zero_bytes;
+
+// Whether the bytes of line block 1 + i from its record j to its check are zero.
+fn rest_from(s: &[u8], form: Form, i: usize, j: usize) -> bool
+    requires { ⌜ (512 * i + 1024 ≤ length (now s)) × (j ≤ recordsInBlock form) ⌝ }
+    ensures { λ r. ⌜ r ≡ zeroBytes (checkOffset - recordBytes form * j) (now (s .entry)) (blockBytes * (1 + i) + recordBytes form * j) ⌝ }
+{
+    let before = record_bytes(form) * j;
+    zero_bytes(508 - before, s, 512 * (1 + i) + before)
+}
 
 // Whether all that is not a line's in line block 1 + i is zero: the bytes from the record after the block's last line to its check.
 fn block_rest(s: &[u8], header: Header, i: usize) -> bool
-    requires { ⌜ (512 * i + 1024 ≤ length (now s)) × (i < 8) ⌝ }
+    requires { ⌜ 512 * i + 1024 ≤ length (now s) ⌝ }
     ensures { λ r. ⌜ r ≡ blockRest (now (s .entry)) header i ⌝ }
 {
-    let start = 512 * (1 + i);
-    if header.lines <= 31 * i {
-        return zero_bytes(508, s, start);
+    let form = header.form;
+    let records = records_in_block(form);
+    if header.lines <= records * i {
+        return rest_from(s, form, i, 0);
     }
-    let lines = header.lines - 31 * i;
-    if 31 <= lines {
-        return zero_bytes(12, s, start + 496);
+    let lines = header.lines - records * i;
+    if records <= lines {
+        return rest_from(s, form, i, records);
     }
-    zero_bytes(508 - RECORD_BYTES * lines, s, start + RECORD_BYTES * lines)
+    rest_from(s, form, i, lines)
 }
 
 // Question 16 of every line block.

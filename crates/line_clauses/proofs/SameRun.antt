@@ -117,7 +117,7 @@ module _ (s : List ℕ) (h : Header) (read : SheetRead s h) (k : ℕ) (less : k 
     first-proper : ProperRun firstOf
     first-proper = record {
       width-least = read .limits .width-least;
-      width-most = omega (arith, read .limits .width-most);
+      width-most = omega (arith, read .width-most);
       word-most = word-most;
       carries-most = omega (arith, carries-most);
       line-right = line-at-right s h read k less line;
@@ -164,7 +164,7 @@ module _ (s : List ℕ) (h : Header) (read : SheetRead s h) (k : ℕ) (less : k 
       second-proper : ProperRun secondOf
       second-proper = record {
         width-least = read .limits .width-least;
-        width-most = omega (arith, read .limits .width-most);
+        width-most = omega (arith, read .width-most);
         word-most = word-most;
         carries-most = carries-most;
         line-right = line-at-right s h read k less line;

@@ -13,10 +13,14 @@ use Rattle.words.proofs.Below.{all-cong, total-cong, tabulate-cong, concat-cong
 use Rattle.buffers.specs.LittleEndian.{byteAt, numberAt}
 use Rattle.buffers.proofs.LittleEndian.{number-cong}
 use Rattle.sheet.specs.Asking.{ask}
-use Rattle.sheet.specs.Fields.{headerOf, inputDifference, recordSize, recordPosition, recordOf, lineOf, trailOf}
+use Rattle.sheet.specs.Blocks.{blockBytes, checkOffset}
+use Rattle.sheet.specs.Form.{wordBytes, recordBytes, recordsInBlock, tailBytes, inputsEnd}
+use Rattle.sheet.specs.Fields.{formOf, headerOf, inputDifference, recordPosition, recordOf, lineOf, trailOf}
 use Rattle.sheet.specs.Checks.{checkOf}
 use Rattle.sheet.specs.Questions.{zeroBytes, lengthQuestions, checkQuestions, marked, inputRight, headerQuestions, recordQuestions, lineQuestions, recordRest, blockRest, restQuestion, laterQuestions, questions}
+use Rattle.sheet.proofs.FormSizes.{sizes, input-inside, record-ends, line-ends, same-form}
 use Rattle.sealing.specs.Demands.{SameButChecks}
+use Rattle.sheet.specs.declared.Form.{Form}
 use Rattle.sheet.specs.declared.Header.{Header}
 use Rattle.sheet.specs.declared.Mode.{Mode}
 use Rattle.sheet.specs.declared.Mode.the-variants.{Seal}
@@ -36,28 +40,34 @@ module _ {s t : List ℕ} (h : SameButChecks s t) where
 
   -- ---- the fields
 
+  form-same : formOf s ≡ formOf t
+  form-same = same-form s t (λ i l. h .same-byte i (omega arith))
+
   pub same-header : headerOf s ≡ headerOf t
   same-header =
       let blocks : length s / 512 ≡ length t / 512 = ap (λ (n : ℕ). n / 512) (h .same-length) in
       let width = h .same-byte 4 (omega arith) in
       let inputs = h .same-byte 5 (omega arith) in
       let lines = same-number 2 6 (omega arith) in
-      λ i. record { blocks = blocks i; width = width i; inputs = inputs i; lines = lines i }
+      λ i. record { form = form-same i; blocks = blocks i; width = width i; inputs = inputs i; lines = lines i }
 
-  same-input : (j : ℕ) → j < 8 → inputDifference s j ≡ inputDifference t j
-  same-input j l = same-number 4 (8 + 4 * j) (omega arith)
+  same-input : (f : Form) (j : ℕ) → j < 8 → inputDifference f s j ≡ inputDifference f t j
+  same-input f j l =
+      same-number (wordBytes f) (8 + wordBytes f * j) (omega (arith, input-inside f j l, sizes f .inputs-inside))
 
-  same-record : (k : ℕ) → recordOf s k ≡ recordOf t k
+  same-record : (f : Form) (k : ℕ) → recordOf f s k ≡ recordOf f t k
   unfolding recordOf recordPosition
-  same-record k =
-      let p = 512 * (1 + k / 31) + recordSize * (k % 31) in
+  same-record f k =
+      let ends = line-ends f k in
+      let holds = sizes f .record-holds in
+      let p = blockBytes * (1 + k / recordsInBlock f) + recordBytes f * (k % recordsInBlock f) in
       let kind = h .same-byte p (omega arith) in
       let amount = h .same-byte (p + 1) (omega arith) in
       let first = same-number 2 (p + 2) (omega arith) in
       let second = same-number 2 (p + 4) (omega arith) in
       let zero = same-number 2 (p + 6) (omega arith) in
-      let constant = same-number 4 (p + 8) (omega arith) in
-      let difference = same-number 4 (p + 12) (omega arith) in
+      let constant = same-number (wordBytes f) (p + 8) (omega arith) in
+      let difference = same-number (wordBytes f) (p + 8 + wordBytes f) (omega arith) in
       λ i. record {
         kind = kind i;
         amount = amount i;
@@ -87,26 +97,30 @@ module _ {s t : List ℕ} (h : SameButChecks s t) where
   unfolding inputRight
   same-inputs p =
       all-cong 8 (inputRight s p) (inputRight t p)
-      (λ j l. ap (λ (d : ℕ). cond (ltb j (p .inputs)) (isWord (p .width) d) (eqb d 0)) (same-input j l))
+      (λ j l. ap (λ (d : ℕ). cond (ltb j (p .inputs)) (isWord (p .width) d) (eqb d 0)) (same-input (p .form) j l))
 
   same-header-questions : (p : Header) → headerQuestions s p ≡ headerQuestions t p
   unfolding headerQuestions
-  same-header-questions p = rw (same-mark, same-inputs p, same-zeros 468 40 (omega arith))
+  same-header-questions p = rw (same-mark, same-inputs p, same-zeros (checkOffset - inputsEnd (p .form)) (inputsEnd (p .form)) (omega (arith, sizes (p .form) .inputs-inside)))
 
   same-rest : (p : Header) (i : ℕ) → blockRest s p i ≡ blockRest t p i
   unfolding blockRest recordRest
   same-rest p i =
       ap₂ _&&_
-      (all-cong 31 (recordRest s p i) (recordRest t p i)
-      (λ j l. ap (λ z. ltb (31 * i + j) (p .lines) || z) (same-zeros recordSize (512 * (1 + i) + recordSize * j) (omega arith))))
-      (same-zeros 12 (512 * (1 + i) + 496) (omega arith))
+      (all-cong (recordsInBlock f) (recordRest s p i) (recordRest t p i)
+      (λ j l. ap (λ z. ltb (recordsInBlock f * i + j) (p .lines) || z)
+      (same-zeros (recordBytes f) (blockBytes * (1 + i) + recordBytes f * j) (omega (arith, record-ends f j l)))))
+      (same-zeros (tailBytes f) (blockBytes * (1 + i) + recordBytes f * recordsInBlock f) (omega (arith, sizes f .filled)))
+    where
+      f : Form
+      f = p .form
 
   pub same-later : (mode : Mode) (p : Header) → laterQuestions mode s p ≡ laterQuestions mode t p
   unfolding laterQuestions lineQuestions restQuestion
   same-later mode p =
       ap₂ _++_ (same-header-questions p)
       (ap₂ _++_
-      (concat-cong (p .lines) (lineQuestions mode s p) (lineQuestions mode t p) (λ k l. ap (recordQuestions mode p k) (same-record k)))
+      (concat-cong (p .lines) (lineQuestions mode s p) (lineQuestions mode t p) (λ k l. ap (recordQuestions mode p k) (same-record (p .form) k)))
       (concat-cong (p .blocks - 1) (restQuestion s p) (restQuestion t p) (λ i l. ap (λ a. ask a 16 (1 + i) ∷ []) (same-rest p i))))
 
   pub same-questions : questions Seal s ≡ questions Seal t
@@ -119,7 +133,8 @@ module _ {s t : List ℕ} (h : SameButChecks s t) where
   pub same-trail : headerOf s .inputs ≤ 8 → trailOf s ≡ trailOf t
   unfolding trailOf
   same-trail few =
-      let width : headerOf s .width ≡ headerOf t .width = ap (λ (p : Header). p .width) same-header in
-      let inputs : tabulate (headerOf s .inputs) (inputDifference s) ≡ tabulate (headerOf t .inputs) (inputDifference t) = tabulate-cong (headerOf s .inputs) (inputDifference s) (inputDifference t) (λ j l. same-input j (omega arith)) ∙ ap (λ (p : Header). tabulate (p .inputs) (inputDifference t)) same-header in
-      let lines : tabulate (headerOf s .lines) (λ k. lineOf (recordOf s k)) ≡ tabulate (headerOf t .lines) (λ k. lineOf (recordOf t k)) = tabulate-cong (headerOf s .lines) (λ k. lineOf (recordOf s k)) (λ k. lineOf (recordOf t k)) (λ k l. ap lineOf (same-record k)) ∙ ap (λ (p : Header). tabulate (p .lines) (λ k. lineOf (recordOf t k))) same-header in
+      let f = formOf s in
+      let width = ap (λ (p : Header). p .width) same-header in
+      let inputs = tabulate-cong (headerOf s .inputs) (inputDifference f s) (inputDifference f t) (λ j l. same-input f j (omega arith)) ∙ ap (λ (p : Header). tabulate (p .inputs) (inputDifference (p .form) t)) same-header in
+      let lines = tabulate-cong (headerOf s .lines) (λ k. lineOf (recordOf f s k)) (λ k. lineOf (recordOf f t k)) (λ k l. ap lineOf (same-record f k)) ∙ ap (λ (p : Header). tabulate (p .lines) (λ k. lineOf (recordOf (p .form) t k))) same-header in
       λ i. record { width = width i; inputs = inputs i; lines = lines i }

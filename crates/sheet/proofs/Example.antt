@@ -4,7 +4,7 @@ use mathlib.Core.Path.{_≡_, refl}
 use mathlib.Core.List.{List, [], _∷_, _++_, map}
 use Prim.Native.Nat.{ℕ}
 use lib.ListN.{set, replicate}
-use Rattle.sheet.specs.Fields.{headerOf, trailOf, recordOf, recordPosition}
+use Rattle.sheet.specs.Fields.{formOf, headerOf, trailOf, recordOf, recordPosition}
 use Rattle.sheet.specs.Answers.{IsAccepted}
 use Rattle.sheet.specs.Example.{exampleSheet}
 use Rattle.sheet.specs.Asking.{Question, Verdict, allYes, verdict}
@@ -19,7 +19,7 @@ use Rattle.trail.specs.Kinds.{kindOf}
 use Rattle.trail.specs.Runs.{isStart}
 
 pub example-accepted : IsAccepted exampleSheet
-unfolding exampleSheet allYes checkOf within zeroBytes lengthQuestions checkQuestion checkQuestions marked linesRight inputRight headerQuestions operandsEarlier operandsDiffer amountRight constantRight unusedZero recordQuestions lineQuestions recordRest blockRest restQuestion laterQuestions questions all total concat numberAt kindOf recordOf recordPosition
+unfolding exampleSheet allYes checkOf within zeroBytes lengthQuestions checkQuestion checkQuestions marked linesRight inputRight headerQuestions operandsEarlier operandsDiffer amountRight constantRight unusedZero recordQuestions lineQuestions recordRest blockRest restQuestion laterQuestions questions all total concat numberAt kindOf formOf recordOf recordPosition
 example-accepted = refl
 
 -- n is 2, the one input difference 1; line 0 adds the constant 1 to word 0 and states the difference 3
@@ -28,7 +28,7 @@ pub example-trail : trailOf exampleSheet ≡ record {
   inputs = 1 ∷ [];
   lines = record { kind = 6; amount = 0; first = 0; second = 0; constant = 1; difference = 3 } ∷ [];
 }
-unfolding exampleSheet trailOf tabulate numberAt recordOf recordPosition
+unfolding exampleSheet trailOf tabulate numberAt formOf recordOf recordPosition
 example-trail = refl
 
 -- ---- one byte of a sheet set, and what is refused then
@@ -76,7 +76,7 @@ answer s = verdict (questions Seal s) (headerOf s)
 
 pub refusals : map (λ (c : Case). answer (set twoLines (c .position) (c .byte))) cases
     ≡ map (λ (c : Case). refused (c .number) (c .place)) cases
-unfolding twoLines verdict within zeroBytes lengthQuestions checkQuestions marked linesRight inputRight headerQuestions operandsEarlier operandsDiffer amountRight constantRight unusedZero recordQuestions lineQuestions recordRest blockRest restQuestion laterQuestions questions all concat numberAt kindOf recordOf recordPosition
+unfolding twoLines verdict within zeroBytes lengthQuestions checkQuestions marked linesRight inputRight headerQuestions operandsEarlier operandsDiffer amountRight constantRight unusedZero recordQuestions lineQuestions recordRest blockRest restQuestion laterQuestions questions all concat numberAt kindOf formOf recordOf recordPosition
 refusals = refl
 
 -- ---- the calls' own questions
@@ -96,5 +96,5 @@ pub own-refusals : map alone (
     ∷ []
     )
     ≡ accepted 0 ∷ refused 17 0 ∷ accepted 0 ∷ refused 18 0 ∷ accepted 0 ∷ refused 19 0 ∷ []
-unfolding exampleSheet verdict trailOf tabulate numberAt recordOf recordPosition isStart all
+unfolding exampleSheet verdict trailOf tabulate numberAt formOf recordOf recordPosition isStart all
 own-refusals = refl

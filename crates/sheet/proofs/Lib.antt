@@ -1,3 +1,4 @@
+pub mod FormSizes
 pub mod Asking
 pub mod Testing
 pub mod Answering

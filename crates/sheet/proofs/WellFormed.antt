@@ -16,7 +16,7 @@ use Rattle.trail.specs.Trail.{inputCount, lineAt}
 use Rattle.trail.specs.WellFormed.{WellFormedLine, WellFormed, Sized}
 use Rattle.trail.proofs.KindNumbers.{known}
 use Rattle.sheet.specs.Asking.{allYes}
-use Rattle.sheet.specs.Fields.{headerOf, inputDifference, recordOf, lineOf, trailOf}
+use Rattle.sheet.specs.Fields.{formOf, headerOf, inputDifference, recordOf, lineOf, trailOf}
 use Rattle.sheet.specs.Questions.{lengthQuestions, checkQuestions, inputRight, headerQuestions, operandsEarlier, operandsDiffer, amountRight, constantRight, unusedZero, recordQuestions, lineQuestions, laterQuestions, questions}
 use Rattle.sheet.specs.Answers.{IsAccepted}
 use Rattle.sheet.specs.Facts.{Whole, Limited, SheetRead}
@@ -24,6 +24,7 @@ use Rattle.sheet.specs.declared.Header.{Header}
 use Rattle.sheet.specs.declared.Record.{Record}
 use Rattle.sheet.specs.declared.Mode.{Mode}
 use Rattle.sheet.specs.declared.Mode.the-variants.{Read}
+use Rattle.sheet.proofs.FormSizes.{width-below}
 use Rattle.sheet.proofs.TrailParts.{trail-inputs, trail-lines, trail-input, trail-line}
 use Rattle.sheet.proofs.Asking.{yes-left, yes-right, yes-at}
 use Rattle.sheet.proofs.Settled.{apart, whole, headed, limited}
@@ -88,16 +89,16 @@ module _ (mode : Mode) (s : List ℕ) (e : allYes (questions mode s) ≡ true) w
   unfolding laterQuestions
   accepted-limited = limited s (headerOf s) (accepted-whole .blocks-least) (yes-left _ _ later)
 
-  input-word : (j : ℕ) → j < headerOf s .inputs → inputDifference s j < 2 ^ headerOf s .width
+  input-word : (j : ℕ) → j < headerOf s .inputs → inputDifference (formOf s) s j < 2 ^ headerOf s .width
   unfolding inputRight laterQuestions
   input-word j l =
       let right = all-true 8 (inputRight s (headerOf s)) (headed s (headerOf s) (yes-left _ _ later) .inputs-right) j (omega (arith, accepted-limited .inputs-most)) in
       ltb-true _ _ (rw (lt-ltb j (headerOf s .inputs) l) at right)
 
-  record-right : (k : ℕ) → k < headerOf s .lines → WellFormedLine (headerOf s .width) (headerOf s .inputs + k) (lineOf (recordOf s k))
+  record-right : (k : ℕ) → k < headerOf s .lines → WellFormedLine (headerOf s .width) (headerOf s .inputs + k) (lineOf (recordOf (formOf s) s k))
   unfolding laterQuestions lineQuestions
   record-right k l =
-      line-right mode (headerOf s) k (recordOf s k) (omega (arith, accepted-limited .width-least))
+      line-right mode (headerOf s) k (recordOf (formOf s) s k) (omega (arith, accepted-limited .width-least))
       (yes-at (lineQuestions mode s (headerOf s)) (headerOf s .lines) (yes-left _ _ (yes-right (headerQuestions s (headerOf s)) _ later)) k l)
 
   input-right : (j : ℕ) → j < headerOf s .inputs → getD (trailOf s .inputs) j 0 < 2 ^ trailOf s .width
@@ -121,7 +122,7 @@ module _ (mode : Mode) (s : List ℕ) (e : allYes (questions mode s) ≡ true) w
   pub accepted-sized : Sized 32 (trailOf s)
   unfolding trailOf
   accepted-sized = record {
-    width-most = accepted-limited .width-most;
+    width-most = omega (arith, accepted-limited .width-most, width-below (formOf s));
     inputs-most = omega (arith, trail-inputs s, accepted-limited .inputs-most);
     lines-most = omega (arith, trail-lines s, accepted-limited .lines-most);
   }
@@ -137,6 +138,7 @@ has-read s h accepted parts = record {
   limits = subst Limited parts (accepted-limited Read s accepted);
   well-formed = accepted-well-formed Read s accepted;
   width = ap (λ (p : Header). p .width) parts;
+  width-most = omega (arith, subst Limited parts (accepted-limited Read s accepted) .width-most, width-below (h .form));
   inputs = trail-inputs s ∙ ap (λ (p : Header). p .inputs) parts;
   lines = trail-lines s ∙ ap (λ (p : Header). p .lines) parts;
 }

@@ -6,39 +6,50 @@ use Rattle.words.specs.Below.{tabulate}
 use Rattle.buffers.specs.LittleEndian.{byteAt, numberAt}
 use Rattle.trail.specs.declared.Line.{Line}
 use Rattle.trail.specs.Trail.{Trail}
+use Rattle.sheet.specs.Form.{wordBytes, recordBytes, recordsInBlock}
+use Rattle.sheet.specs.Blocks.{blockBytes}
+use Rattle.sheet.specs.declared.Form.{Form}
+use Rattle.sheet.specs.declared.Form.the-variants.{Narrow}
 use Rattle.sheet.specs.declared.Header.{Header}
 use Rattle.sheet.specs.declared.Record.{Record}
 
--- The blocks; byte 4 the width n; byte 5 the input count m; bytes 6, 7 the line count L.
+-- The form that the mark, bytes 0 to 3, tells: there is one mark, and one form. Shut, so that what is said of sheets holds whatever
+-- the form.
+unfoldable pub formOf : List ℕ → Form
+formOf s = Narrow
+
+-- The form; the blocks; byte 4 the width n; byte 5 the input count m; bytes 6, 7 the line count L.
 abbrev pub headerOf : List ℕ → Header
-headerOf s = record { blocks = length s / 512; width = byteAt s 4; inputs = byteAt s 5; lines = numberAt 2 s 6 }
+headerOf s = record {
+  form = formOf s;
+  blocks = length s / blockBytes;
+  width = byteAt s 4;
+  inputs = byteAt s 5;
+  lines = numberAt 2 s 6;
+}
 
 -- bytes 8 to 39: eight input differences of 32 bits
-abbrev pub inputDifference : List ℕ → ℕ → ℕ
-inputDifference s j = numberAt 4 s (8 + 4 * j)
-
--- each block after block 0 has 31 line records of 16 bytes
-abbrev pub recordSize : ℕ
-recordSize = 16
+abbrev pub inputDifference : Form → List ℕ → ℕ → ℕ
+inputDifference f s j = numberAt (wordBytes f) s (8 + wordBytes f * j)
 
 -- a record: kind, amount (a byte each), first operand, second operand, zero (16 bits each), constant, difference (32 bits each)
-abbrev pub recordFrom : List ℕ → ℕ → Record
-recordFrom s i = record {
+abbrev pub recordFrom : Form → List ℕ → ℕ → Record
+recordFrom f s i = record {
   kind = byteAt s i;
   amount = byteAt s (i + 1);
   first = numberAt 2 s (i + 2);
   second = numberAt 2 s (i + 4);
   zero = numberAt 2 s (i + 6);
-  constant = numberAt 4 s (i + 8);
-  difference = numberAt 4 s (i + 12);
+  constant = numberAt (wordBytes f) s (i + 8);
+  difference = numberAt (wordBytes f) s (i + 8 + wordBytes f);
 }
 
--- where line k's record stands
-unfoldable pub recordPosition : ℕ → ℕ
-recordPosition k = 512 * (1 + k / 31) + recordSize * (k % 31)
+-- each block after block 0 has 31 line records of 16 bytes: where line k's record stands
+unfoldable pub recordPosition : Form → ℕ → ℕ
+recordPosition f k = blockBytes * (1 + k / recordsInBlock f) + recordBytes f * (k % recordsInBlock f)
 
-unfoldable pub recordOf : List ℕ → ℕ → Record
-recordOf s k = recordFrom s (recordPosition k)
+unfoldable pub recordOf : Form → List ℕ → ℕ → Record
+recordOf f s k = recordFrom f s (recordPosition f k)
 
 -- a record's line: all its fields but the zero field
 abbrev pub lineOf : Record → Line
@@ -55,6 +66,6 @@ lineOf r = record {
 unfoldable pub trailOf : List ℕ → Trail
 trailOf s = record {
   width = headerOf s .width;
-  inputs = tabulate (headerOf s .inputs) (inputDifference s);
-  lines = tabulate (headerOf s .lines) (λ k. lineOf (recordOf s k));
+  inputs = tabulate (headerOf s .inputs) (inputDifference (formOf s) s);
+  lines = tabulate (headerOf s .lines) (λ k. lineOf (recordOf (formOf s) s k));
 }

@@ -1,3 +1,5 @@
+pub mod Form
+pub mod Blocks
 pub mod Asking
 pub mod Fields
 pub mod Checks

@@ -11,9 +11,12 @@ use Rattle.buffers.specs.LittleEndian.{byteAt, numberAt}
 use Rattle.trail.specs.Kinds.{kindOf, usesSecond, usesAmount, usesConstant, wantsDistinct}
 use Rattle.trail.specs.Trail.{Trail}
 use Rattle.trail.specs.Runs.{isStart}
+use Rattle.sheet.specs.Form.{widthMost, recordBytes, recordsInBlock, tailBytes, inputsEnd}
+use Rattle.sheet.specs.Blocks.{blockBytes, checkOffset, lengthLeast, lengthMost}
 use Rattle.sheet.specs.Asking.{Question, ask}
-use Rattle.sheet.specs.Fields.{headerOf, inputDifference, recordSize, recordOf}
+use Rattle.sheet.specs.Fields.{headerOf, inputDifference, recordOf}
 use Rattle.sheet.specs.Checks.{checkOf, checkPosition}
+use Rattle.sheet.specs.declared.Form.{Form}
 use Rattle.sheet.specs.declared.Header.{Header}
 use Rattle.sheet.specs.declared.Record.{Record}
 use Rattle.sheet.specs.declared.Mode.{Mode}
@@ -29,7 +32,7 @@ zeroBytes k s i = all k (λ j. eqb (byteAt s (i + j)) 0)
 
 -- Is the length a multiple of 512 from 1,024 to 4,608? 1
 unfoldable pub lengthQuestions : List ℕ → List Question
-lengthQuestions s = ask (eqb (length s % 512) 0 && within 1024 4608 (length s)) 1 0 ∷ []
+lengthQuestions s = ask (eqb (length s % blockBytes) 0 && within lengthLeast lengthMost (length s)) 1 0 ∷ []
 
 -- Is each block's check right? 2, place: first wrong block. Sealing leaves out this question.
 unfoldable pub checkQuestion : List ℕ → ℕ → List Question
@@ -43,13 +46,18 @@ checkQuestions Seal s h = []
 unfoldable pub marked : List ℕ → Bool
 marked s = eqb (byteAt s 0) 0x41 && (eqb (byteAt s 1) 0x52 && (eqb (byteAt s 2) 0x58 && eqb (byteAt s 3) 0x54))
 
+-- as many line blocks as L needs at 31 each
+abbrev pub lineBlocks : Form → ℕ → ℕ
+lineBlocks f lines = (lines + (recordsInBlock f - 1)) / recordsInBlock f
+
 -- L is from 1 to 248, with just as many line blocks as L needs at 31 each
 unfoldable pub linesRight : Header → Bool
-linesRight h = within 1 248 (h .lines) && eqb (h .blocks - 1) ((h .lines + 30) / 31)
+linesRight h = within 1 248 (h .lines) && eqb (h .blocks - 1) (lineBlocks (h .form) (h .lines))
 
 -- input difference j is below 2 ^ n if it is among the first m, else 0
 unfoldable pub inputRight : List ℕ → Header → ℕ → Bool
-inputRight s h j = cond (ltb j (h .inputs)) (isWord (h .width) (inputDifference s j)) (eqb (inputDifference s j) 0)
+inputRight s h j =
+    cond (ltb j (h .inputs)) (isWord (h .width) (inputDifference (h .form) s j)) (eqb (inputDifference (h .form) s j) 0)
 
 -- Are the four mark bytes there? 3
 -- Is n from 2 to 32? 4
@@ -60,11 +68,11 @@ inputRight s h j = cond (ltb j (h .inputs)) (isWord (h .width) (inputDifference 
 unfoldable pub headerQuestions : List ℕ → Header → List Question
 headerQuestions s h =
     ask (marked s) 3 0
-    ∷ ask (within 2 32 (h .width)) 4 0
+    ∷ ask (within 2 (widthMost (h .form)) (h .width)) 4 0
     ∷ ask (within 1 8 (h .inputs)) 5 0
     ∷ ask (linesRight h) 6 0
     ∷ ask (all 8 (inputRight s h)) 7 0
-    ∷ ask (zeroBytes 468 s 40) 8 0
+    ∷ ask (zeroBytes (checkOffset - inputsEnd (h .form)) s (inputsEnd (h .form))) 8 0
     ∷ []
 
 -- each used operand is an earlier word: line k makes word m + k
@@ -111,14 +119,18 @@ recordQuestions mode h k r =
     ∷ []
 
 unfoldable pub lineQuestions : Mode → List ℕ → Header → ℕ → List Question
-lineQuestions mode s h k = recordQuestions mode h k (recordOf s k)
+lineQuestions mode s h k = recordQuestions mode h k (recordOf (h .form) s k)
 
 -- Line block 1 + i has the records of lines 31 i to 31 i + 30, then 12 bytes: those past L, and the 12 bytes, are zero.
 unfoldable pub recordRest : List ℕ → Header → ℕ → ℕ → Bool
-recordRest s h i j = ltb (31 * i + j) (h .lines) || zeroBytes recordSize s (512 * (1 + i) + recordSize * j)
+recordRest s h i j =
+    ltb (recordsInBlock (h .form) * i + j) (h .lines)
+    || zeroBytes (recordBytes (h .form)) s (blockBytes * (1 + i) + recordBytes (h .form) * j)
 
 unfoldable pub blockRest : List ℕ → Header → ℕ → Bool
-blockRest s h i = all 31 (recordRest s h i) && zeroBytes 12 s (512 * (1 + i) + 496)
+blockRest s h i =
+    all (recordsInBlock (h .form)) (recordRest s h i)
+    && zeroBytes (tailBytes (h .form)) s (blockBytes * (1 + i) + recordBytes (h .form) * recordsInBlock (h .form))
 
 -- Are records past L and the 12 bytes zero in every line block? 16, place: first such block
 unfoldable pub restQuestion : List ℕ → Header → ℕ → List Question

@@ -1,10 +1,19 @@
 // Sheets: what the format says, the answers of reading and sealing, and a refusal in them (document 01, "The sheet").
+pub mod sizes;
+
 ghost use mathlib.Core.Path.{_≡_};
 ghost use Rattle.sheet.specs.Asking.Verdict.{accepted as Verdict·accepted, refused as Verdict·refused};
 ghost use Rattle.sheet.specs.Answers.{readingMeans, refusalOf, answerOf};
 
-// The parts of a sheet: its blocks, the width n, the input count m and the line count L.
+// A sheet's form, by the size of its words.
+pub enum Form {
+    // Words of 32 bits.
+    Narrow,
+}
+
+// The parts of a sheet: its form, its blocks, the width n, the input count m and the line count L.
 pub struct Header {
+    pub form: Form,
     pub blocks: usize,
     pub width: u32,
     pub inputs: usize,

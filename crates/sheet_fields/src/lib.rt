@@ -5,26 +5,31 @@ pub mod predicates;
 ghost use mathlib.Core.Path.{_≡_};
 ghost use Prim.Native.Nat.{_+_, _*_, _<_, _≤_};
 ghost use lib.ListN.{length};
-ghost use Rattle.sheet.specs.Fields.{headerOf, inputDifference, recordSize, recordFrom, recordOf};
+ghost use Rattle.buffers.specs.LittleEndian.{numberAt};
+ghost use Rattle.sheet.specs.Form.{wordBytes, recordBytes, inputsEnd};
+ghost use Rattle.sheet.specs.Blocks.{lengthLeast};
+ghost use Rattle.sheet.specs.Fields.{headerOf, inputDifference, recordFrom, recordOf};
 ghost use Rattle.sheet.specs.Facts.{Whole, Limited};
 use buffers::byte_at;
 use buffers::u16_at;
 use buffers::u32_at;
+use sheet::Form;
 use sheet::Header;
 use sheet::Record;
+use sheet::sizes::record_bytes;
+use sheet::sizes::records_in_block;
+use sheet::sizes::word_bytes;
 
-// The bytes of a line's record.
-pub const RECORD_BYTES: usize = 16;
-
-// The header's numbers.
+// The form, which is the only one that a mark tells, and the header's numbers.
 pub fn header_of(s: &[u8]) -> Header
-    requires { ⌜ 1024 ≤ length (now s) ⌝ }
+    requires { ⌜ lengthLeast ≤ length (now s) ⌝ }
     ensures { λ r. ⌜ r ≡ headerOf (now (s .entry)) ⌝ }
 {
     let width = byte_at(s, 4);
     let inputs = byte_at(s, 5) as usize;
     let lines = u16_at(s, 6) as usize;
     Header {
+        form: Form::Narrow,
         blocks: s.len() / 512,
         width,
         inputs,
@@ -32,26 +37,36 @@ pub fn header_of(s: &[u8]) -> Header
     }
 }
 
-// Input difference j.
-pub fn input_difference(s: &[u8], j: usize) -> u64
-    requires { ⌜ (40 ≤ length (now s)) × (j < 8) ⌝ }
-    ensures { λ r. ⌜ r ≡ inputDifference (now (s .entry)) j ⌝ }
+// The difference or constant at a position.
+fn word_at(s: &[u8], at: usize, form: Form) -> u64
+    requires { ⌜ at + wordBytes form ≤ length (now s) ⌝ }
+    ensures { λ r. ⌜ r ≡ numberAt (wordBytes form) (now (s .entry)) at ⌝ }
 {
-    u32_at(s, 8 + 4 * j) as u64
+    match form {
+        Form::Narrow => u32_at(s, at) as u64,
+    }
+}
+
+// Input difference j.
+pub fn input_difference(s: &[u8], j: usize, form: Form) -> u64
+    requires { ⌜ (inputsEnd form ≤ length (now s)) × (j < 8) ⌝ }
+    ensures { λ r. ⌜ r ≡ inputDifference form (now (s .entry)) j ⌝ }
+{
+    word_at(s, 8 + word_bytes(form) * j, form)
 }
 
 // The record at a position.
-fn record_from(s: &[u8], at: usize) -> Record
-    requires { ⌜ at + recordSize ≤ length (now s) ⌝ }
-    ensures { λ r. ⌜ r ≡ recordFrom (now (s .entry)) at ⌝ }
+fn record_from(s: &[u8], at: usize, form: Form) -> Record
+    requires { ⌜ at + recordBytes form ≤ length (now s) ⌝ }
+    ensures { λ r. ⌜ r ≡ recordFrom form (now (s .entry)) at ⌝ }
 {
     let kind = byte_at(s, at);
     let amount = byte_at(s, at + 1);
     let first = u16_at(s, at + 2) as usize;
     let second = u16_at(s, at + 4) as usize;
     let zero = u16_at(s, at + 6);
-    let constant = u32_at(s, at + 8) as u64;
-    let difference = u32_at(s, at + 12) as u64;
+    let constant = word_at(s, at + 8, form);
+    let difference = word_at(s, at + 8 + word_bytes(form), form);
     Record {
         kind,
         amount,
@@ -66,7 +81,10 @@ fn record_from(s: &[u8], at: usize) -> Record
 // Line k's record.
 pub fn record_of(s: &[u8], header: Header, k: usize) -> Record
     requires { ⌜ Whole (now s) header × Limited header × (k < header .lines) ⌝ }
-    ensures { λ r. ⌜ r ≡ recordOf (now (s .entry)) k ⌝ }
+    ensures { λ r. ⌜ r ≡ recordOf (header .form) (now (s .entry)) k ⌝ }
 {
-    record_from(s, 512 * (1 + k / 31) + RECORD_BYTES * (k % 31))
+    let form = header.form;
+    let records = records_in_block(form);
+    let at = 512 * (1 + k / records) + record_bytes(form) * (k % records);
+    record_from(s, at, form)
 }

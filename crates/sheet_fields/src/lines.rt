@@ -32,7 +32,8 @@ pub fn difference_at(sheet: &[u8], header: Header, j: usize) -> u64
 {
     let inputs = header.inputs;
     if j < inputs {
-        return input_difference(sheet, j);
+        let form = header.form;
+        return input_difference(sheet, j, form);
     }
     let line = line_at(sheet, header, j - inputs);
     line.difference

@@ -2,6 +2,7 @@
 use native.Mathlib.Omega.{arith}
 use borrow.Author.Needs.{needs}
 use Rattle.sheet.specs.Questions.{within, headerQuestions}
+use Rattle.sheet.proofs.FormSizes.{sizes}
 use Rattle.sheet.proofs.Testing.{granted, within-least, within-most}
 use Rattle.sheet.proofs.Answering.{stage}
 use Rattle.header_questions.proofs.header_stage.Tie as tie
@@ -17,11 +18,8 @@ returns : tie.Need-returns
 unfolding headerQuestions
 returns c = search stage depth 24
 
-cast-within : tie.Need-cast-within
-cast-within c = search needs
-
-within-requires : tie.Need-within-requires
-within-requires c κs = search needs
+width-right-requires : tie.Need-width-right-requires
+width-right-requires c κs = search needs
 
 refused-requires-2 : tie.Need-refused-requires-2
 refused-requires-2 c κs = search needs
@@ -30,8 +28,8 @@ returns-2 : tie.Need-returns-2
 unfolding headerQuestions
 returns-2 c = search stage depth 24
 
-within-requires-2 : tie.Need-within-requires-2
-within-requires-2 c κs = search needs
+within-requires : tie.Need-within-requires
+within-requires c κs = search needs
 
 refused-requires-3 : tie.Need-refused-requires-3
 refused-requires-3 c κs = search needs
@@ -52,8 +50,9 @@ returns-4 c = search stage depth 24
 
 inputs-right-requires : tie.Need-inputs-right-requires
 inputs-right-requires c κs =
-    let wide = granted (c .before .before .before .before .before .within .ensures) (c .before .before .before .before .if2 .left) in
-    (search needs, omega (arith, within-least 2 32 _ wide), omega (arith, within-most 2 32 _ wide))
+    let wide = granted (c .before .before .before .before .before .width-right .ensures) (c .before .before .before .before .if2 .left) in
+    let size = sizes (c .before .before .before .before .before .before .before .before .before .args .header .form) in
+    (omega arith, omega (arith, within-least 2 _ _ wide), omega (arith, within-most 2 _ _ wide))
 
 refused-requires-5 : tie.Need-refused-requires-5
 refused-requires-5 c κs = search needs
@@ -62,8 +61,8 @@ returns-5 : tie.Need-returns-5
 unfolding headerQuestions
 returns-5 c = search stage depth 24
 
-zero-bytes-requires : tie.Need-zero-bytes-requires
-zero-bytes-requires c κs = search needs
+rest-zero-requires : tie.Need-rest-zero-requires
+rest-zero-requires c κs = search needs
 
 refused-requires-6 : tie.Need-refused-requires-6
 refused-requires-6 c κs = search needs
@@ -83,11 +82,10 @@ header-stage-spec =
     marked-requires
     refused-requires
     returns
-    cast-within
-    within-requires
+    width-right-requires
     refused-requires-2
     returns-2
-    within-requires-2
+    within-requires
     refused-requires-3
     returns-3
     lines-right-requires
@@ -96,7 +94,7 @@ header-stage-spec =
     inputs-right-requires
     refused-requires-5
     returns-5
-    zero-bytes-requires
+    rest-zero-requires
     refused-requires-6
     returns-6
     returns-7)

@@ -2,8 +2,10 @@
 use Prim.Native.Nat.{ℕ, _≤_}
 use mathlib.Core.Path.{_≡_}
 use mathlib.Core.Bool.{true}
+use native.Mathlib.Omega.{arith}
 use borrow.Author.Needs.{needs}
 use Rattle.sheet.specs.Questions.{within, recordQuestions}
+use Rattle.sheet.proofs.FormSizes.{sizes}
 use Rattle.sheet.proofs.Testing.{granted, within-least, within-most}
 use Rattle.sheet.proofs.Answering.{stage}
 use Rattle.line_questions.proofs.record_stage.Tie as tie
@@ -56,7 +58,7 @@ unfolding recordQuestions
 returns-4 c = search stage depth 24
 
 constant-right-requires : tie.Need-constant-right-requires
-constant-right-requires c κs = search needs
+constant-right-requires c κs = (omega arith, omega (arith, sizes (c .before .before .before .before .before .before .before .before .before .before .args .header .form) .width-most))
 
 refused-requires-5 : tie.Need-refused-requires-5
 refused-requires-5 c κs = search needs
@@ -66,7 +68,7 @@ unfolding recordQuestions
 returns-5 c = search stage depth 24
 
 is-word-requires : tie.Need-is-word-requires
-is-word-requires c κs = search needs
+is-word-requires c κs = (omega arith, omega (arith, sizes (c .before .before .before .before .before .before .before .before .before .before .before .before .args .header .form) .width-most))
 
 refused-requires-6 : tie.Need-refused-requires-6
 refused-requires-6 c κs = search needs

@@ -1,7 +1,8 @@
 -- Each part of the header at its offset.
 use borrow.Author.Needs.{needs}
-use Rattle.sheet_fields.proofs.header_of.Statement.{statement}
+use Rattle.sheet.specs.Fields.{formOf}
 use Rattle.sheet_fields.proofs.header_of.Tie as tie
+use Rattle.sheet_fields.proofs.header_of.Statement.{statement}
 
 byte-at-requires : tie.Need-byte-at-requires
 byte-at-requires c κs = search needs
@@ -19,6 +20,7 @@ cast-lines : tie.Need-cast-lines
 cast-lines c = search needs
 
 returns : tie.Need-returns
+unfolding formOf
 returns c = cc
 
 pub header-of-spec : {M : Type 1} → statement M

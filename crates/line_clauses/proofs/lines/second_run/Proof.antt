@@ -45,7 +45,7 @@ add-carries c =
     let start = c .before .before .before .before in
     let limits = (start .pre .0) .limits in
     let fits = before-most (start .args .sheet .now) (start .args .header) (start .pre .0) (start .args .k) (start .pre .1) in
-    omega (arith, limits .width-most, start .pre .2)
+    omega (arith, start .pre .0 .width-most, start .pre .2)
 
 returns : tie.Need-returns
 returns c =

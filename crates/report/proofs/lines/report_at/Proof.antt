@@ -22,7 +22,7 @@ report-requires c κs =
     let is = c .differential-at .ensures in
     let proper = proper-line (read .well-formed) (start .args .k) (omega arith) in
     let width = ap (λ (d : Differential). d .width) is in
-    (subst Proper (sym is) proper, omega (arith, read .width, read .limits .width-most))
+    (subst Proper (sym is) proper, omega (arith, read .width, read .width-most))
 
 returns : tie.Need-returns
 unfolding lineReport

@@ -3,29 +3,29 @@ use native.Mathlib.Omega.{arith}
 use Prim.Native.Nat.{_-_, _≤_, _<_}
 use mathlib.Core.Path.{sym, ap, _∙_, subst}
 use borrow.Author.Needs.{needs}
-use Rattle.sheet.specs.Facts.{Whole, Limited}
 use Rattle.trail.specs.declared.Line.{Line}
 use Rattle.trail.specs.Trail.{lineAt}
-use Rattle.sheet.specs.Fields.{trailOf}
-use Rattle.sheet.proofs.WellFormed.{accepted-whole, accepted-limited}
+use Rattle.sheet.specs.Fields.{inputDifference, trailOf}
+use Rattle.sheet.proofs.FormSizes.{sizes}
 use Rattle.sheet.proofs.TrailParts.{input-difference, line-difference}
 use Rattle.sheet.specs.declared.Header.{Header}
-use Rattle.sheet.specs.declared.Mode.the-variants.{Read as reading}
 use Rattle.sheet_fields.proofs.lines.difference_at.Tie as tie
 use Rattle.sheet_fields.proofs.lines.difference_at.Statement.{statement}
 
 input-difference-requires : tie.Need-input-difference-requires
 input-difference-requires c κs =
-    let read = c .before .before .pre .0 in
-    let whole = subst (Whole _) (read .parts) (accepted-whole reading _ (read .accepted)) in
-    let limited = subst Limited (read .parts) (accepted-limited reading _ (read .accepted)) in
+    let inside = sizes (c .before .before .args .header .form) .inputs-inside in
     (omega arith, omega arith)
 
 returns : tie.Need-returns
 returns c =
     let start = c .before .before .before in
-    let less = subst (λ (h : Header). start .args .j < h .inputs) (sym (start .pre .0 .parts)) (c .before .if1 .taken) in
-    c .input-difference .ensures ∙ sym (input-difference _ (start .args .j) less)
+    let s = start .args .sheet .now in
+    let j = start .args .j in
+    let parts = sym (start .pre .0 .parts) in
+    let less = subst (λ (h : Header). j < h .inputs) parts (c .before .if1 .taken) in
+    let same = ap (λ (h : Header). inputDifference (h .form) s j) parts in
+    c .input-difference .ensures ∙ same ∙ sym (input-difference s j less)
 
 line-at-requires : tie.Need-line-at-requires
 line-at-requires c κs = search needs
