@@ -1,4 +1,5 @@
 pub mod FormSizes
+pub mod FieldBytes
 pub mod Asking
 pub mod Testing
 pub mod Answering

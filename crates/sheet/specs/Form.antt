@@ -1,8 +1,13 @@
 -- The sheet's sizes by its form (document 01, "The sheet"): a table, with a row for each size and an entry for each form. All that is
 -- said of sheets elsewhere speaks of a form's sizes, whatever they are.
 use Prim.Native.Nat.{ℕ, _+_, _*_}
+use mathlib.Core.List.{List, [], _∷_}
 use Rattle.sheet.specs.declared.Form.{Form}
 use Rattle.sheet.specs.declared.Form.the-variants.{Narrow}
+
+-- bytes 0 to 3 are hexadecimal 41 52 58 54
+abbrev pub markOf : Form → List ℕ
+markOf Narrow = 0x41 ∷ 0x52 ∷ 0x58 ∷ 0x54 ∷ []
 
 -- the bytes of an input difference, a constant or a difference: 32 bits each
 abbrev pub wordBytes : Form → ℕ

@@ -30,7 +30,7 @@ mul-result-3 c =
     let start = c .before .before .before in
     let limits = (start .pre .0) .limits in
     let few : start .args .k ≤ mostLines = omega (arith, limits .lines-most) in
-    omega (arith, limits .width-most, carry-variables-most _ _ (start .pre .0) mostLines (start .args .k) (c .carried-before .result) few (c .carried-before .ensures))
+    omega (arith, start .pre .0 .width-most, carry-variables-most _ _ (start .pre .0) mostLines (start .args .k) (c .carried-before .result) few (c .carried-before .ensures))
 
 add-result : tie.Need-add-result
 add-result c =
@@ -39,7 +39,7 @@ add-result c =
     let few : start .args .k ≤ mostLines = omega (arith, limits .lines-most) in
     omega (
       arith,
-      limits .width-most,
+      start .pre .0 .width-most,
       word-variables-most _ _ (start .pre .0),
       carry-variables-most _ _ (start .pre .0) mostLines (start .args .k) (c .carried-before .result) few (c .carried-before .ensures),
     )

@@ -1,0 +1,4 @@
+pub mod FormLaws
+pub mod Encoding
+pub mod Questions
+pub mod Encoded

@@ -1,0 +1,1 @@
+// A trail as a sheet's bytes: definitions and theorems, no code.
