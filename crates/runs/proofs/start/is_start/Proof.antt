@@ -11,6 +11,7 @@ use lib.ListN.{length, getD}
 use Rattle.words.specs.Words.{isWord}
 use Rattle.trail.specs.Trail.{Trail}
 use Rattle.trail.specs.Runs.{isStart}
+use Rattle.sheet.proofs.FormSizes.{sizes}
 use Rattle.trail.proofs.Runs.{start-length, start-word, start-yes}
 use Rattle.runs.proofs.start.is_start.Statement.{statement}
 use Rattle.runs.proofs.start.is_start.Tie as tie
@@ -41,7 +42,7 @@ shared-slice-read-is-word : tie.Need-shared-slice-read-is-word Inv-loop μ-loop
 shared-slice-read-is-word c = search needs
 
 is-word-requires : tie.Need-is-word-requires Inv-loop μ-loop
-is-word-requires c κs = search needs
+is-word-requires c κs = (omega arith, omega (arith, sizes (c .before .before .before .before .before .before .args .header .form) .width-most))
 
 returns-2 : tie.Need-returns-2 Inv-loop μ-loop
 returns-2 c t width inputs =
