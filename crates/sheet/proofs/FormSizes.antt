@@ -14,28 +14,29 @@ use Rattle.sheet.specs.declared.Form.the-variants.{Narrow}
 
 -- what holds of each form's sizes
 pub record Sizes (f : Form) : Type 0 where
-  -- a word of the largest width fills its bytes, and fits 64 bits
-  pub width-bytes : widthMost f ≡ 8 * wordBytes f
-  pub width-most : widthMost f ≤ 64
+  -- a word of the largest width fits 64 bits
+  pub width-fits : widthMost f ≤ 64
   -- the header's input differences end before its check
   pub inputs-inside : inputsEnd f ≤ checkOffset
   -- constant and difference stand in a record after its first eight bytes
   pub record-holds : 8 + wordBytes f + wordBytes f ≤ recordBytes f
-  -- a block has records, which end before its check
+  -- a block has records, and fewer than bytes
   pub records-least : 1 ≤ recordsInBlock f
-  pub records-inside : recordsInBlock f ≤ checkOffset
+  pub records-most : recordsInBlock f ≤ blockBytes
   -- the records and the zero bytes after them fill a block up to its check
   pub filled : recordBytes f * recordsInBlock f + tailBytes f ≡ checkOffset
+  -- 248 lines need the most blocks
+  pub blocks-full : 1 + lineBlocks f 248 ≡ blocksMost f
 
 pub sizes : (f : Form) → Sizes f
 sizes Narrow = record {
-  width-bytes = refl;
-  width-most = omega arith;
+  width-fits = omega arith;
   inputs-inside = omega arith;
   record-holds = omega arith;
   records-least = omega arith;
-  records-inside = omega arith;
+  records-most = omega arith;
   filled = refl;
+  blocks-full = refl;
 }
 
 -- while no form has wider words
@@ -48,7 +49,7 @@ width-below Narrow = omega arith
 pub input-inside : (f : Form) (j : ℕ) → j < 8 → 8 + wordBytes f * j + wordBytes f ≤ inputsEnd f
 input-inside Narrow j l = omega arith
 
--- the most lines need the most blocks
+-- no sheet has more blocks than the most
 pub blocks-enough : (f : Form) (lines : ℕ) → lines ≤ 248 → 1 + lineBlocks f lines ≤ blocksMost f
 blocks-enough Narrow lines l = omega arith
 

@@ -24,7 +24,7 @@ sub-result-2 : tie.Need-sub-result-2
 sub-result-2 c = omega (arith, sizes (c .before .before .before .before .args .header .form) .records-least)
 
 add-result : tie.Need-add-result
-add-result c = omega (arith, sizes (c .before .before .before .before .before .args .header .form) .records-inside, within-most 1 248 _ (granted (c .before .before .before .before .within .ensures) (c .before .before .before .if1 .left)))
+add-result c = omega (arith, sizes (c .before .before .before .before .before .args .header .form) .records-most, within-most 1 248 _ (granted (c .before .before .before .before .within .ensures) (c .before .before .before .if1 .left)))
 
 div-result : tie.Need-div-result
 div-result c = omega (arith, sizes (c .before .before .before .before .before .args .header .form) .records-least)

@@ -58,7 +58,7 @@ unfolding recordQuestions
 returns-4 c = search stage depth 24
 
 constant-right-requires : tie.Need-constant-right-requires
-constant-right-requires c κs = (omega arith, omega (arith, sizes (c .before .before .before .before .before .before .before .before .before .before .args .header .form) .width-most))
+constant-right-requires c κs = (omega arith, omega (arith, sizes (c .before .before .before .before .before .before .before .before .before .before .args .header .form) .width-fits))
 
 refused-requires-5 : tie.Need-refused-requires-5
 refused-requires-5 c κs = search needs
@@ -68,7 +68,7 @@ unfolding recordQuestions
 returns-5 c = search stage depth 24
 
 is-word-requires : tie.Need-is-word-requires
-is-word-requires c κs = (omega arith, omega (arith, sizes (c .before .before .before .before .before .before .before .before .before .before .before .before .args .header .form) .width-most))
+is-word-requires c κs = (omega arith, omega (arith, sizes (c .before .before .before .before .before .before .before .before .before .before .before .before .args .header .form) .width-fits))
 
 refused-requires-6 : tie.Need-refused-requires-6
 refused-requires-6 c κs = search needs

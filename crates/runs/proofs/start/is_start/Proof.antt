@@ -42,7 +42,7 @@ shared-slice-read-is-word : tie.Need-shared-slice-read-is-word Inv-loop μ-loop
 shared-slice-read-is-word c = search needs
 
 is-word-requires : tie.Need-is-word-requires Inv-loop μ-loop
-is-word-requires c κs = (omega arith, omega (arith, sizes (c .before .before .before .before .before .before .args .header .form) .width-most))
+is-word-requires c κs = (omega arith, omega (arith, sizes (c .before .before .before .before .before .before .args .header .form) .width-fits))
 
 returns-2 : tie.Need-returns-2 Inv-loop μ-loop
 returns-2 c t width inputs =
