@@ -1,0 +1,1 @@
+// The owner's three demands, and their proof: no code.
