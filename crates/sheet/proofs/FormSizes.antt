@@ -6,7 +6,7 @@ use mathlib.Core.Path.{_≡_, refl}
 use mathlib.Core.List.{List}
 use Rattle.buffers.specs.LittleEndian.{byteAt}
 use Rattle.sheet.specs.Blocks.{blockBytes, checkOffset}
-use Rattle.sheet.specs.Fields.{formOf, recordPosition}
+use Rattle.sheet.specs.Fields.{formOf}
 use Rattle.sheet.specs.Form.{wordBytes, widthMost, recordBytes, recordsInBlock, tailBytes, blocksMost, inputsEnd}
 use Rattle.sheet.specs.Questions.{lineBlocks}
 use Rattle.sheet.specs.declared.Form.{Form}

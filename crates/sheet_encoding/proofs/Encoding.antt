@@ -212,7 +212,7 @@ module _ (f : Form) {t : Trail} (good : WellFormed t) (sized : Sized (widthMost 
       let known = known-within (lineAt t k .kind) (right .kind-known) in
       record {
         kind = omega (arith, known .1);
-        amount = field-fits 256 (lineAt t k .amount) (usesAmount q) (omega arith) (λ e. omega (arith, right .amount-most e, sizes f .width-most)) (right .amount-unused);
+        amount = field-fits 256 (lineAt t k .amount) (usesAmount q) (omega arith) (λ e. omega (arith, right .amount-most e, sizes f .width-fits)) (right .amount-unused);
         first = omega (arith, right .first-earlier, sized .inputs-most, sized .lines-most);
         second = field-fits (256 ^ 2) (lineAt t k .second) (usesSecond q) (omega arith) (λ e. omega (arith, right .second-earlier e, sized .inputs-most, sized .lines-most)) (right .second-unused);
         constant = field-fits (256 ^ wordBytes f) (lineAt t k .constant) (usesConstant q) word-some (λ e. word-fits _ (right .constant-word e)) (right .constant-unused);
@@ -242,7 +242,7 @@ module _ (f : Form) {t : Trail} (good : WellFormed t) (sized : Sized (widthMost 
   unfolding headerBlock
   header-read =
       let marked = stands-at {p = 4} (omega (arith, mark-long f)) (stands-right (markOf f) _ (header-stands f t)) in
-      let w = stands-field 1 (t .width) _ (omega (arith, sizes f .width-most)) marked in
+      let w = stands-field 1 (t .width) _ (omega (arith, sizes f .width-fits)) marked in
       let m = stands-field 1 (inputCount t) _ (omega (arith, sized .inputs-most)) (w .1) in
       let l = stands-field 2 (lineCount t) _ (omega (arith, sized .lines-most)) (m .1) in
       let words = stands-left (concat 8 input) (replicate (blockBytes - inputsEnd f) 0) (l .1) in

@@ -1,7 +1,7 @@
 -- The header's questions, asked in their order; the first whose answer is no ends the stage.
 use native.Mathlib.Omega.{arith}
 use borrow.Author.Needs.{needs}
-use Rattle.sheet.specs.Questions.{within, headerQuestions}
+use Rattle.sheet.specs.Questions.{headerQuestions}
 use Rattle.sheet.proofs.FormSizes.{sizes}
 use Rattle.sheet.proofs.Testing.{granted, within-least, within-most}
 use Rattle.sheet.proofs.Answering.{stage}
