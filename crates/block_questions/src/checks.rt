@@ -8,13 +8,13 @@ ghost use Rattle.words.specs.Below.{concat};
 ghost use Rattle.sheet.specs.Asking.{verdict};
 ghost use Rattle.sheet.specs.Checks.{checkOf, checkPosition};
 ghost use Rattle.sheet.specs.Questions.{checkQuestion, checkQuestions};
-ghost use Rattle.sheet.specs.Answers.{readingMeans};
+ghost use Rattle.answers.specs.Answers.{readingMeans};
 ghost use Rattle.sheet.specs.Facts.{Whole};
+use answers::Reading;
+use answers::refused;
 use buffers::u32_at;
 use sheet::Header;
 use sheet::Mode;
-use sheet::Reading;
-use sheet::refused;
 
 // A block's check: its first 127 numbers and its index, added modulo 2^32.
 pub fn block_check(s: &[u8], block: usize) -> u32

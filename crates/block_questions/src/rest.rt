@@ -7,15 +7,15 @@ ghost use Rattle.sheet.specs.Form.{recordBytes, recordsInBlock};
 ghost use Rattle.sheet.specs.Blocks.{blockBytes, checkOffset};
 ghost use Rattle.sheet.specs.Asking.{verdict};
 ghost use Rattle.sheet.specs.Questions.{zeroBytes, blockRest, restQuestion};
-ghost use Rattle.sheet.specs.Answers.{readingMeans};
+ghost use Rattle.answers.specs.Answers.{readingMeans};
 ghost use Rattle.sheet.specs.Facts.{Whole};
+use answers::Reading;
+use answers::refused;
 use sheet::Form;
 use sheet::Header;
-use sheet::Reading;
-use sheet::refused;
-use sheet::sizes::record_bytes;
-use sheet::sizes::records_in_block;
 use sheet_fields::predicates::zero_bytes;
+use sheet_fields::sizes::record_bytes;
+use sheet_fields::sizes::records_in_block;
 
 // Whether the bytes of line block 1 + i from its record j to its check are zero.
 fn rest_from(s: &[u8], form: Form, i: usize, j: usize) -> bool

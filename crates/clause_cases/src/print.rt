@@ -1,9 +1,9 @@
 // Answers as text: each function takes the position to put it at and tells the position after it.
+use answers::Refusal;
+use clause_sizes::Counts;
 use clauses::ListAnswer;
-use line_clauses::Counts;
 use runs::RunsAnswer;
-use runs::RunsOutcome;
-use sheet::Refusal;
+use sheet_runs::RunsOutcome;
 use text::bounded::put_number;
 use text::bounded::put_refused;
 use text::bounded::put_text;

@@ -1,6 +1,1 @@
-pub mod KindRows
-pub mod RunLiterals
-pub mod GateTables
-pub mod RunTables
-pub mod Gathering
 pub mod WrittenBits

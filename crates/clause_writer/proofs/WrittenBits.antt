@@ -1,10 +1,8 @@
 -- What the code writes for a bit: for one output after the other, the gate of the table that it looked up.
-use Prim.Native.Nat.{ℕ, zero, suc, _+_, _<_}
-use native.Mathlib.Omega.{arith}
-use mathlib.Core.Path.{_≡_, refl, sym, ap, subst, _∙_}
+use Prim.Native.Nat.{ℕ, _+_}
+use mathlib.Core.Path.{_≡_, refl, sym, ap, _∙_}
 use mathlib.Core.Bool.{Bool, true, false, _&&_, cond}
 use mathlib.Core.List.{List, [], _∷_, _++_, append-nil}
-use borrow.Author.Tests.{lt-ltb, le-ltb}
 use lib.Dec.{ltb}
 use lib.IntN.{ℤ}
 use Rattle.words.specs.Words.{carryInto}
@@ -12,43 +10,19 @@ use Rattle.words.specs.Below.{concat}
 use Rattle.trail.specs.Kinds.{kindOf}
 use Rattle.cnf.specs.Formulas.{numbers}
 use Rattle.cnf.specs.Gates.{literals, gate}
-use Rattle.cnf.specs.Tables.{tableGate}
-use Rattle.cnf.proofs.Tables.{table-gate}
-use Rattle.clause_lists.specs.Kinds.{twoOrMore, Carries, someCarries, gates, hasCarries}
+use Rattle.gate_writer.specs.Tables.{tableGate}
+use Rattle.gate_writer.proofs.Tables.{table-gate}
+use Rattle.clause_lists.specs.Kinds.{twoOrMore, Carries, someCarries, gates}
 use Rattle.clause_lists.specs.Kinds.Carries.{none, made}
 use Rattle.clause_lists.specs.Lists.{nextClauses, bitClauses}
-use Rattle.clause_writer.specs.declared.LineRun.{LineRun}
-use Rattle.clause_writer.specs.declared.inputs.Inputs.{Inputs}
-use Rattle.clause_writer.specs.Writing.{wordIn, carryIn, inputsIn, outputsOf, functionOf, outputIn, clausesOfOutput, clausesOfBit, Gathers, tiedBy, IsTable}
-use Rattle.clause_writer.proofs.KindRows.{carries-add}
-
--- output 0 and those after it
-pub at-first : (P : ℕ → Type 0) (j : ℕ) → j ≡ 0 → P 0 → P j
-at-first P j e p = subst P (sym e) p
-
-pub at-later : (P : ℕ → Type 0) (j : ℕ) → (j ≡ 0 → ⊥) → ((k : ℕ) → P (suc k)) → P j
-at-later P zero n p = absurd (n refl)
-at-later P (suc k) n p = p k
+use Rattle.run_literals.specs.declared.LineRun.{LineRun}
+use Rattle.bit_gates.specs.declared.inputs.Inputs.{Inputs}
+use Rattle.run_literals.specs.Run.{wordIn, carryIn}
+use Rattle.bit_gates.specs.Gates.{inputsIn, outputsOf, functionOf, outputIn, Gathers, IsTable}
+use Rattle.clause_writer.specs.Writing.{clausesOfOutput, clausesOfBit, tiedBy}
+use Rattle.run_literals.proofs.KindRows.{carries-add}
 
 module _ (r : LineRun) (i : ℕ) where
-  abbrev carries : Bool
-  carries = hasCarries (kindOf (r .line .kind))
-
-  -- ---- how many outputs
-
-  pub none-goes-out : i + 1 ≡ r .width → 1 ≡ outputsOf r i
-  none-goes-out e = rw (le-ltb (i + 1) (r .width) (omega arith))
-
-  pub none-carried : carries ≡ false → 1 ≡ outputsOf r i
-  none-carried e = rw e (at (ltb (i + 1) (r .width)))
-    where
-      at : (b : Bool) → _≡_ {A = ℕ} 1 (cond (b && false) 2 1)
-      at true = refl
-      at false = refl
-
-  pub one-carried : carries ≡ true → i < r .width → (i + 1 ≡ r .width → ⊥) → 2 ≡ outputsOf r i
-  one-carried e less n = rw (e, lt-ltb (i + 1) (r .width) (omega arith))
-
   -- ---- the clauses of a bit are those of its outputs
 
   abbrev next : Carries → List (List ℤ)

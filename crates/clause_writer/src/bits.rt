@@ -3,15 +3,17 @@ ghost use Prim.Native.Nat.{_+_, _<_, _≤_};
 ghost use lib.ListN.{length};
 ghost use Rattle.buffers.specs.Overwrite.{Wrote};
 ghost use Rattle.cnf.specs.Formulas.{numbers};
-ghost use Rattle.clause_writer.specs.Writing.{ProperRun, clausesOfBit, CanNegate, gathered, Gathers, tiedBy};
-use crate::LineRun;
-use crate::inputs::Inputs;
-use crate::inputs::gather;
-use crate::inputs::with;
-use crate::outputs::output_count;
-use crate::outputs::output_literal;
-use crate::outputs::output_table;
-use cnf::put_gate;
+ghost use Rattle.run_literals.specs.Run.{ProperRun, CanNegate};
+ghost use Rattle.bit_gates.specs.Gates.{gathered, Gathers};
+ghost use Rattle.clause_writer.specs.Writing.{clausesOfBit, tiedBy};
+use bit_gates::inputs::Inputs;
+use bit_gates::inputs::gather;
+use bit_gates::inputs::with;
+use bit_gates::outputs::output_count;
+use bit_gates::outputs::output_literal;
+use bit_gates::outputs::output_table;
+use gate_writer::put_gate;
+use run_literals::LineRun;
 
 // Writes the clauses of bit i from a position on, those of one output after the other. Returns the next position.
 pub(crate) fn put_bit(out: &mut [i32], at: usize, run: LineRun, i: u32) -> usize

@@ -5,13 +5,13 @@ use lib.ListN.{length}
 use lib.IntN.{ℤ}
 use Rattle.sheet.specs.Asking.{Question, Verdict}
 use Rattle.sheet.specs.Asking.Verdict.{accepted, refused}
-use Rattle.sheet.specs.Calls.{Call, writing}
+use Rattle.answers.specs.Calls.{Call, writing}
 use Rattle.sheet.specs.Fields.{headerOf, trailOf}
 use Rattle.sheet.specs.Questions.{questions, lineNumberQuestions, roomQuestions}
 use Rattle.sheet.specs.declared.Mode.the-variants.{Read}
 use Rattle.clause_lists.specs.Lists.{lineList}
-use Rattle.line_clauses.specs.Counts.{countsOf}
-use Rattle.line_clauses.specs.declared.Counts.{Counts}
+use Rattle.clause_sizes.specs.Counts.{countsOf}
+use Rattle.clause_sizes.specs.declared.Counts.{Counts}
 use Rattle.clauses.specs.declared.CountsAnswer.{CountsAnswer}
 use Rattle.clauses.specs.declared.CountsAnswer.the-variants as counts
 use Rattle.clauses.specs.declared.ListAnswer.{ListAnswer}

@@ -1,16 +1,16 @@
 // The clauses as C takes them: numbers in a lent buffer, and a struct for the answer.
 ghost use mathlib.Core.Path.{_≡_};
-ghost use Rattle.sheet.specs.Answers.{answerOf};
+ghost use Rattle.answers.specs.Answers.{answerOf};
 ghost use Rattle.clauses.specs.Answers.{countsCall, listCall};
 use crate::ListAnswer;
 use crate::line_list;
+use answers::Answer;
+use answers::Reading;
+use answers::Refusal;
+use answers::refusal_of;
 use buffers::put_all;
-use line_clauses::counting::both_counts;
+use clause_sizes::counting::both_counts;
 use reading::read;
-use sheet::Answer;
-use sheet::Reading;
-use sheet::Refusal;
-use sheet::refusal_of;
 
 // Writes the counts of variables and of clauses. Counts these two.
 pub fn clause_counts(sheet: &[u8], out: &mut [u64]) -> Answer

@@ -6,16 +6,16 @@ ghost use Rattle.sheet.specs.Asking.{verdict};
 ghost use Rattle.sheet.specs.Fields.{trailOf};
 ghost use Rattle.sheet.specs.Questions.{questions};
 ghost use Rattle.sheet.specs.declared.Mode.the-variants.{Read};
-ghost use Rattle.line_clauses.specs.Counts.{countsOf};
+ghost use Rattle.clause_sizes.specs.Counts.{countsOf};
 ghost use Rattle.clauses.specs.Answers.{countsMeans, listMeans, listCall};
-use line_clauses::Counts;
-use line_clauses::counting::both_counts;
-use line_clauses::lines::list_numbers;
-use line_clauses::lines::put_line;
+use answers::Reading;
+use answers::Refusal;
+use answers::refusal_of;
+use clause_sizes::Counts;
+use clause_sizes::counting::both_counts;
+use clause_sizes::sizes::list_numbers;
+use line_clauses::put_line;
 use reading::read;
-use sheet::Reading;
-use sheet::Refusal;
-use sheet::refusal_of;
 
 pub enum CountsAnswer {
     Given(Counts),

@@ -8,14 +8,14 @@ use mathlib.Core.List.{List, [], _∷_, _++_}
 use Rattle.buffers.specs.Overwrite.{overwrite}
 use Rattle.sheet.specs.Asking.{Question, ask, allYes, verdict}
 use Rattle.sheet.specs.Asking.Verdict.{accepted, refused}
-use Rattle.sheet.specs.Calls.{writing}
+use Rattle.answers.specs.Calls.{writing}
 use Rattle.sheet.specs.Fields.{headerOf}
 use Rattle.sheet.specs.Questions.{questions}
 use Rattle.sheet.specs.declared.Mode.the-variants.{Seal}
 use Rattle.sheet.proofs.Asking.{verdict-yes, yes-verdict, no-verdict, go-on}
 use Rattle.sealing.proofs.WrittenChecks.{sealed-no}
 use Rattle.sealing.proofs.Demand2.{sealing-is-right}
-use Rattle.report.proofs.Demand2.{sheet-reports-are-right}
+use Rattle.sheet_reports.proofs.Demand2.{sheet-reports-are-right}
 use Rattle.clauses.proofs.Demand3.{every-sheet-pairs}
 use Rattle.demands.specs.Demands.{FirstNo, Demand1, Demands}
 

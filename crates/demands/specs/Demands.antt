@@ -6,13 +6,13 @@ use mathlib.Core.Bool.{true, false}
 use mathlib.Core.List.{List, _∷_, _++_}
 use Rattle.sheet.specs.Asking.{Question, ask, allYes, verdict}
 use Rattle.sheet.specs.Asking.Verdict.{accepted, refused}
-use Rattle.sheet.specs.Calls.{writing}
+use Rattle.answers.specs.Calls.{writing}
 use Rattle.sheet.specs.Fields.{headerOf}
 use Rattle.sheet.specs.Questions.{questions}
 use Rattle.sheet.specs.declared.Mode.the-variants.{Seal}
 use Rattle.sealing.specs.Sealing.{sealed}
 use Rattle.sealing.specs.Demands.{SealingIsRight}
-use Rattle.report.specs.Demand2.{SheetReportsAreRight}
+use Rattle.sheet_reports.specs.Demand2.{SheetReportsAreRight}
 use Rattle.clauses.specs.Demand3.{EverySheetPairs}
 
 -- a question with this number and place is the first whose answer is no

@@ -1,8 +1,5 @@
-// One line's differential: what can be said of it (document 01, "Line reports").
-mod units;
-
+// One line's differential: what can be said of it (document 01, "Line reports"). Types alone: the code stands above.
 use trail::Line;
-pub use units::in_sixteenths;
 
 // A line's differential: the width n, the line, and the differences of the words that it names.
 pub struct Differential {

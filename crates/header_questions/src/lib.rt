@@ -7,18 +7,18 @@ ghost use Rattle.sheet.specs.Form.{widthMost, inputsEnd};
 ghost use Rattle.sheet.specs.Blocks.{checkOffset};
 ghost use Rattle.sheet.specs.Asking.{verdict};
 ghost use Rattle.sheet.specs.Questions.{within as Questions·within, zeroBytes, marked as Questions·marked, linesRight, inputRight, headerQuestions};
-ghost use Rattle.sheet.specs.Answers.{readingMeans};
+ghost use Rattle.answers.specs.Answers.{readingMeans};
 ghost use Rattle.sheet.specs.Facts.{Whole};
+use answers::Reading;
+use answers::refused;
+use arithmetic::is_word;
 use sheet::Header;
-use sheet::Reading;
-use sheet::refused;
-use sheet::sizes::inputs_end;
-use sheet::sizes::records_in_block;
-use sheet::sizes::width_most;
 use sheet_fields::input_difference;
 use sheet_fields::predicates::within;
 use sheet_fields::predicates::zero_bytes;
-use words::is_word;
+use sheet_fields::sizes::inputs_end;
+use sheet_fields::sizes::records_in_block;
+use sheet_fields::sizes::width_most;
 
 // Whether the four mark bytes are there.
 fn marked(s: &[u8]) -> bool

@@ -1,3 +1,2 @@
-pub mod SheetCounts
 pub mod SameRun
 pub mod ListParts

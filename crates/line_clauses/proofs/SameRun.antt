@@ -27,10 +27,11 @@ use Rattle.sheet.specs.declared.Header.{Header}
 use Rattle.sheet.specs.Fields.{trailOf}
 use Rattle.sheet.specs.Facts.{SheetRead}
 use Rattle.sheet.proofs.WellFormed.{line-at-right}
-use Rattle.clause_writer.specs.declared.LineRun.{LineRun}
-use Rattle.clause_writer.specs.Writing.{signedLiteral, differenceIn, wordIn, carryIn, clausesOfRun, ProperRun}
-use Rattle.clause_writer.proofs.RunLiterals.{made-signed, first-signed, second-signed}
-use Rattle.line_clauses.proofs.SheetCounts.{before-most}
+use Rattle.run_literals.specs.declared.LineRun.{LineRun}
+use Rattle.run_literals.specs.Run.{signedLiteral, differenceIn, wordIn, carryIn, ProperRun}
+use Rattle.clause_writer.specs.Writing.{clausesOfRun}
+use Rattle.run_literals.proofs.RunLiterals.{made-signed, first-signed, second-signed}
+use Rattle.clause_sizes.proofs.SheetCounts.{before-most}
 
 -- ---- a run's clauses depend on the literals of the words that its line names, and of its carries
 

@@ -6,16 +6,16 @@ ghost use lib.Dec.{eqb};
 ghost use Rattle.words.specs.Below.{concat};
 ghost use Rattle.sheet.specs.Asking.{verdict};
 ghost use Rattle.sheet.specs.Questions.{operandsEarlier, operandsDiffer, amountRight, constantRight, unusedZero, recordQuestions, lineQuestions};
-ghost use Rattle.sheet.specs.Answers.{readingMeans};
+ghost use Rattle.answers.specs.Answers.{readingMeans};
 ghost use Rattle.sheet.specs.Facts.{Whole, Limited};
+use answers::Reading;
+use answers::refused;
+use arithmetic::is_word;
 use sheet::Header;
 use sheet::Mode;
-use sheet::Reading;
 use sheet::Record;
-use sheet::refused;
 use sheet_fields::predicates::within;
 use sheet_fields::record_of;
-use words::is_word;
 
 // Whether each operand that the kind uses names a word before the given one.
 fn operands_earlier(line: Record, word: usize) -> bool

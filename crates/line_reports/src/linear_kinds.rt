@@ -3,10 +3,10 @@ ghost use mathlib.Core.Path.{_≡_};
 ghost use Prim.Native.Nat.{_≤_};
 ghost use Rattle.differential.specs.Demand2.{Proper};
 ghost use Rattle.differential.specs.Report.{reportMeans, certainIf, givenDifference};
+use arithmetic::rotate_left;
+use arithmetic::rotate_right;
 use differential::Differential;
 use differential::LineReport;
-use words::rotate_left;
-use words::rotate_right;
 
 // Certain if the stated difference is the one that the operands' differences give, else impossible.
 pub(crate) fn certain_if(d: Differential) -> LineReport

@@ -4,9 +4,9 @@ ghost use Prim.Native.Nat.{_≤_};
 ghost use lib.Bits.{bitOr, bitXor};
 ghost use Rattle.differential.specs.TwoWords.{wordsImpossible, wordsWeight};
 ghost use Rattle.differential.specs.Report.{reportMeans, wordsReport};
+use arithmetic::mask;
 use differential::LineReport;
 use differential::WholeBits;
-use words::mask;
 
 // Halves with their weight, or impossible.
 pub(crate) fn words_report(n: u32, alpha: u64, beta: u64, gamma: u64) -> LineReport

@@ -1,18 +1,16 @@
 // What the programs do: they read a sheet from an open file and print a text of it on standard output (document 01, "The
 // programs").
-mod clause_text;
 mod refusals;
-mod report_text;
 
 ghost use Prim.Native.Nat.{_≤_};
 ghost use Rattle.sheet.specs.Facts.{SheetRead};
-use crate::clause_text::put_clauses;
-use crate::clause_text::put_header;
 use crate::refusals::put_refusal;
-use crate::report_text::put_report;
+use answers::Reading;
+use clause_text::put_clauses;
+use clause_text::put_header;
 use reading::read;
+use report_text::put_report;
 use sheet::Header;
-use sheet::Reading;
 use text::stream::OUTPUT_BYTES;
 use text::stream::write_out;
 

@@ -1,6 +1,6 @@
 // A refusal as the programs print it.
 ghost use Prim.Native.Nat.{_≤_};
-use sheet::Refusal;
+use answers::Refusal;
 use text::stream::OUTPUT_BYTES;
 use text::stream::put_byte;
 use text::stream::put_number;

@@ -3,10 +3,10 @@ ghost use mathlib.Core.Path.{_≡_};
 ghost use Rattle.sheet.specs.Asking.{verdict};
 ghost use Rattle.sheet.specs.Fields.{headerOf};
 ghost use Rattle.sheet.specs.Questions.{questions};
-ghost use Rattle.sheet.specs.Answers.{answerOf};
+ghost use Rattle.answers.specs.Answers.{answerOf};
 ghost use Rattle.sheet.specs.declared.Mode.the-variants.{Read};
-use sheet::Answer;
-use sheet::Reading;
+use answers::Answer;
+use answers::Reading;
 
 // Asks all questions of a sheet. Counts its lines.
 pub fn read(sheet: &[u8]) -> Answer

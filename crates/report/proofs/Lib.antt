@@ -1,5 +1,1 @@
-pub mod ProperLines
-pub mod SmallReports
-pub mod Matched
-pub mod Demand2
-pub mod Sums
+pub mod Reporting

@@ -1,4 +1,1 @@
-pub mod Lines
-pub mod Totals
 pub mod Answers
-pub mod Demand2

@@ -1,30 +1,24 @@
-// A sheet's line reports (document 01). The calls that users make are `line_report` and `sheet_totals`.
+// The calls on a sheet's reports (document 01, "Line reports"): `line_report`, `sheet_totals` and `write_reports`.
 pub mod c_calls;
-pub mod lines;
 
 ghost use mathlib.Core.Path.{_≡_};
 ghost use Rattle.sheet.specs.Asking.{verdict};
 ghost use Rattle.sheet.specs.Fields.{trailOf};
 ghost use Rattle.sheet.specs.Questions.{questions};
 ghost use Rattle.sheet.specs.declared.Mode.the-variants.{Read};
-ghost use Rattle.report.specs.Lines.{lineReport};
-ghost use Rattle.report.specs.Totals.{sheetTotals};
-ghost use Rattle.report.specs.Answers.{lineMeans, totalsMeans, lineAsks};
-use crate::lines::report_at;
-use crate::lines::sum_reports;
+ghost use Rattle.sheet_reports.specs.Lines.{lineReport};
+ghost use Rattle.sheet_reports.specs.Totals.{sheetTotals};
+ghost use Rattle.report.specs.Answers.{lineMeans, totalsMeans, bufferMeans, lineAsks, reportsCall};
+use answers::Reading;
+use answers::Refusal;
+use answers::refusal_of;
 use differential::LineReport;
-use differential::Sixteenths;
 use reading::read;
-use sheet::Reading;
-use sheet::Refusal;
-use sheet::refusal_of;
-
-// The impossible lines, the sum of the others' weights, and the chains.
-pub struct Totals {
-    pub impossible: u32,
-    pub weight: Sixteenths,
-    pub chains: u32,
-}
+use report_buffer::REPORT_BYTES;
+use report_buffer::put_reports;
+use sheet_reports::Totals;
+use sheet_reports::report_at;
+use sheet_reports::sum_reports;
 
 pub enum LineAnswer {
     Given(LineReport),
@@ -33,6 +27,12 @@ pub enum LineAnswer {
 
 pub enum TotalsAnswer {
     Given(Totals),
+    Refused(Refusal),
+}
+
+// How many bytes were written, or the refusal.
+pub enum BufferAnswer {
+    Written(usize),
     Refused(Refusal),
 }
 
@@ -62,4 +62,24 @@ pub fn sheet_totals(sheet: &[u8]) -> TotalsAnswer
         return TotalsAnswer::Refused(refusal_of(reading));
     };
     TotalsAnswer::Given(sum_reports(sheet, header))
+}
+
+// Writes the reports of all lines, 16 bytes each, from the buffer's start.
+pub fn write_reports(sheet: &[u8], out: &mut [u8]) -> BufferAnswer
+    ensures { λ r. ⌜ (bufferMeans r ≡ reportsCall (now (sheet .entry)) (now (out .entry)) .answer)
+        × (now (out .exit) ≡ reportsCall (now (sheet .entry)) (now (out .entry)) .buffer) ⌝ }
+{
+    let reading = read(sheet);
+    let Reading::Accepted(header) = reading else {
+        return BufferAnswer::Refused(refusal_of(reading));
+    };
+    let need = REPORT_BYTES * header.lines;
+    if out.len() < need {
+        return BufferAnswer::Refused(Refusal {
+            number: 18,
+            place: 0,
+        });
+    }
+    let bytes = put_reports(sheet, header, out);
+    BufferAnswer::Written(bytes)
 }

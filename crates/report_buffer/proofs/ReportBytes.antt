@@ -2,32 +2,16 @@
 use Prim.Native.Nat.{ℕ, zero, suc, _+_, _≤_, _<_}
 use native.Mathlib.Numerals.{add-one}
 use native.Mathlib.Omega.{arith}
-use mathlib.Core.Path.{_≡_, refl, sym, ap, subst, _∙_}
-use mathlib.Core.Bool.{true, false}
+use mathlib.Core.Path.{_≡_, refl, _∙_}
 use mathlib.Core.List.{List}
-use borrow.Author.Tests.{le-leb, lt-leb}
-use lib.Dec.{leb}
 use lib.ListN.{length, length-append}
 use Rattle.words.specs.Below.{concat}
-use Rattle.buffers.specs.Overwrite.{overwrite, Wrote}
+use Rattle.buffers.specs.Overwrite.{Wrote}
 use Rattle.buffers.specs.LittleEndian.{bytesOf}
 use Rattle.buffers.proofs.Appending.{wrote-none, wrote-append}
 use Rattle.buffers.proofs.LittleEndian.{length-bytesOf}
 use Rattle.differential.specs.Report.{Report}
-use Rattle.trail.specs.Trail.{lineCount}
-use Rattle.sheet.specs.Asking.{verdict}
-use Rattle.sheet.specs.Fields.{headerOf, trailOf}
-use Rattle.sheet.specs.Questions.{questions}
-use Rattle.sheet.specs.Answers.{readingMeans}
-use Rattle.sheet.specs.declared.Header.{Header}
-use Rattle.sheet.specs.declared.Mode.the-variants.{Read}
-use Rattle.sheet.specs.declared.Reading.{Reading}
-use Rattle.sheet.specs.declared.Reading.the-variants.{Accepted}
-use Rattle.sheet.proofs.Calling.{was-read, calling}
-use Rattle.report.specs.Lines.{lineReport}
-use Rattle.report.specs.Totals.{SmallReport}
-use Rattle.report.proofs.Demand2.{sheet-report-small}
-use Rattle.report_buffer.specs.Buffer.{reportSize, fieldBytes, reportBytes, sheetBytes, bytesNeeded}
+use Rattle.report_buffer.specs.Buffer.{reportSize, fieldBytes, reportBytes, bytesNeeded}
 
 pub length-fields : (number chains weight fitting : ℕ) → length (fieldBytes number chains weight fitting) ≡ reportSize
 unfolding fieldBytes
@@ -71,25 +55,3 @@ module _ (number chains weight fitting : ℕ) {at p₁ p₂ p₃ p₄ p₅ : ℕ
       let n₃ = length-bytesOf 2 chains in
       let n₄ = length-bytesOf 4 weight in
       wrote-append (omega arith) w₁ (wrote-append (omega arith) w₂ (wrote-append (omega arith) w₃ (wrote-append (omega arith) w₄ w₅)))
-
--- ---- the room that the calls ask for
-
-module _ (s : List ℕ) (r : Reading) (read : readingMeans r ≡ verdict (questions Read s) (headerOf s)) (h : Header) (accepts : r ≡ Accepted h) where
-  needed : length (sheetBytes (trailOf s)) ≡ bytesNeeded (h .lines)
-  unfolding sheetBytes
-  needed =
-      length-reports (lineReport (trailOf s)) (lineCount (trailOf s)) ∙ ap bytesNeeded (was-read s r read h accepts .lines)
-
-  pub reports-short : (room : ℕ) → room < bytesNeeded (h .lines) → leb (length (sheetBytes (trailOf s))) room ≡ false
-  reports-short room l = lt-leb (length (sheetBytes (trailOf s))) room (omega (arith, needed))
-
-  pub reports-long : (room : ℕ) → bytesNeeded (h .lines) ≤ room → leb (length (sheetBytes (trailOf s))) room ≡ true
-  reports-long room l = le-leb (length (sheetBytes (trailOf s))) room (omega (arith, needed))
-
-  -- a line's report fits its bytes
-  pub line-small : (k : ℕ) → k < h .lines → {m : Report} → m ≡ lineReport (trailOf s) k → SmallReport m
-  line-small k l e =
-      let w = was-read s r read h accepts in
-      subst SmallReport (sym e) (sheet-report-small s (w .accepted) k (omega (arith, w .lines)))
-
-pub ruleset reporting = (calling, reports-short, reports-long, line-small)

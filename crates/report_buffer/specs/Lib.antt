@@ -1,2 +1,1 @@
 pub mod Buffer
-pub mod Answers

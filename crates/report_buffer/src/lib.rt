@@ -1,7 +1,4 @@
-// The report buffer: the reports of all lines, 16 bytes each (document 01, "Line reports"). The call that users make is
-// `write_reports`.
-pub mod c_calls;
-
+// The report buffer of a sheet that was read: the reports of all lines, 16 bytes each (document 01, "Line reports").
 ghost use mathlib.Core.Path.{_≡_};
 ghost use Prim.Native.Nat.{_+_, _≤_};
 ghost use lib.ListN.{length};
@@ -9,47 +6,16 @@ ghost use Rattle.buffers.specs.Overwrite.{Wrote};
 ghost use Rattle.sheet.specs.Fields.{trailOf};
 ghost use Rattle.sheet.specs.Facts.{SheetRead};
 ghost use Rattle.differential.specs.Report.{reportMeans};
-ghost use Rattle.report.specs.Totals.{SmallReport};
+ghost use Rattle.sheet_reports.specs.Totals.{SmallReport};
 ghost use Rattle.report_buffer.specs.Buffer.{reportSize, fieldBytes, reportBytes, sheetBytes, bytesNeeded};
-ghost use Rattle.report_buffer.specs.Answers.{bufferMeans, reportsCall};
 use buffers::put_number;
 use differential::LineReport;
-use differential::in_sixteenths;
-use reading::read;
-use report::lines::report_at;
 use sheet::Header;
-use sheet::Reading;
-use sheet::Refusal;
-use sheet::refusal_of;
+use sheet_reports::report_at;
+use units::in_sixteenths;
 
 // The bytes of a line's report.
 pub const REPORT_BYTES: usize = 16;
-
-// How many bytes were written, or the refusal.
-pub enum BufferAnswer {
-    Written(usize),
-    Refused(Refusal),
-}
-
-// Writes the reports of all lines, 16 bytes each, from the buffer's start.
-pub fn write_reports(sheet: &[u8], out: &mut [u8]) -> BufferAnswer
-    ensures { λ r. ⌜ (bufferMeans r ≡ reportsCall (now (sheet .entry)) (now (out .entry)) .answer)
-        × (now (out .exit) ≡ reportsCall (now (sheet .entry)) (now (out .entry)) .buffer) ⌝ }
-{
-    let reading = read(sheet);
-    let Reading::Accepted(header) = reading else {
-        return BufferAnswer::Refused(refusal_of(reading));
-    };
-    let need = REPORT_BYTES * header.lines;
-    if out.len() < need {
-        return BufferAnswer::Refused(Refusal {
-            number: 18,
-            place: 0,
-        });
-    }
-    let bytes = put_reports(sheet, header, out);
-    BufferAnswer::Written(bytes)
-}
 
 // Writes the reports of all lines of a sheet that was read, one behind the other. Returns the next position.
 pub fn put_reports(sheet: &[u8], header: Header, out: &mut [u8]) -> usize

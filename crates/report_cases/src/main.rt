@@ -1,4 +1,4 @@
-// Runs cases of line reports on `report::line_report`, `report::sheet_totals` and `report_buffer::write_reports`, and holds each
+// Runs cases of line reports on `report::line_report`, `report::sheet_totals` and `report::write_reports`, and holds each
 // differential's report against a count over all operand values.
 //
 // A case is a line of standard input, `NAME: NUMBERS`. Its name's first letter says what it is:

@@ -1,10 +1,10 @@
 // Answers as text: each function takes the position to put it at and tells the position after it.
 use crate::rows::row_of;
+use answers::Refusal;
 use differential::LineReport;
+use report::BufferAnswer;
 use report::LineAnswer;
 use report::TotalsAnswer;
-use report_buffer::BufferAnswer;
-use sheet::Refusal;
 use text::bounded::put_number;
 use text::bounded::put_refused;
 use text::bounded::put_text;
@@ -49,7 +49,7 @@ pub fn put_totals(out: &mut [u8], at: usize, answer: TotalsAnswer) -> usize {
     }
 }
 
-// The answer of `report_buffer::write_reports`: ` written BYTES`, or a refusal.
+// The answer of `report::write_reports`: ` written BYTES`, or a refusal.
 pub fn put_written(out: &mut [u8], at: usize, answer: BufferAnswer) -> usize {
     match answer {
         BufferAnswer::Written(bytes) => put_number(out, at, b" written ", bytes as u64),

@@ -1,7 +1,7 @@
 // A report's numbers, as in the report buffer.
 use differential::LineReport;
 use differential::WholeBits;
-use differential::in_sixteenths;
+use units::in_sixteenths;
 
 pub struct Row {
     pub number: u64,

@@ -3,8 +3,8 @@ ghost use Prim.Native.Nat.{_≤_};
 use crate::print::put_line;
 use crate::print::put_totals;
 use crate::print::put_written;
+use answers::Reading;
 use report_buffer::REPORT_BYTES;
-use sheet::Reading;
 use text::bounded::put_bytes;
 use text::bounded::put_number;
 use text::bounded::put_text;
@@ -104,7 +104,7 @@ fn put_buffer(out: &mut [u8], at: usize, sheet: &[u8], length: usize) -> usize {
 
 // What is answered for a buffer, and its bytes afterwards.
 fn put_reports(out: &mut [u8], at: usize, sheet: &[u8], buffer: &mut [u8]) -> usize {
-    let written = put_written(out, at, report_buffer::write_reports(sheet, buffer));
+    let written = put_written(out, at, report::write_reports(sheet, buffer));
     let opened = put_text(out, written, b" [");
     let shown = put_bytes(out, opened, buffer);
     put_text(out, shown, b"]")

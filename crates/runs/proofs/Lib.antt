@@ -1,4 +1,1 @@
-pub mod Least
-pub mod Disagreement
-pub mod MadeWords
 pub mod StartTest

@@ -4,20 +4,14 @@ use mathlib.Core.List.{List, [], _∷_, _++_}
 use lib.ListN.{length}
 use Rattle.sheet.specs.Asking.{Question, Verdict}
 use Rattle.sheet.specs.Asking.Verdict.{accepted, refused}
-use Rattle.sheet.specs.Calls.{Call, writing}
+use Rattle.answers.specs.Calls.{Call, writing}
 use Rattle.sheet.specs.Fields.{trailOf}
 use Rattle.sheet.specs.Questions.{questions, roomQuestions, startQuestions}
 use Rattle.sheet.specs.declared.Mode.the-variants.{Read}
-use Rattle.runs.specs.Outcome.{Outcome, outcome}
-use Rattle.runs.specs.Outcome.Outcome.{followed, disagree}
+use Rattle.sheet_runs.specs.Outcome.{Outcome, outcome, outcomeMeans}
+use Rattle.sheet_runs.specs.Outcome.Outcome.{followed, disagree}
 use Rattle.runs.specs.declared.RunsAnswer.{RunsAnswer}
 use Rattle.runs.specs.declared.RunsAnswer.the-variants.{Given, Refused}
-use Rattle.runs.specs.declared.RunsOutcome.{RunsOutcome}
-use Rattle.runs.specs.declared.RunsOutcome.the-variants.{Follows, Disagree}
-
-abbrev pub outcomeMeans : RunsOutcome → Outcome
-outcomeMeans Follows = followed
-outcomeMeans (Disagree k i) = disagree k i
 
 abbrev pub runsMeans : RunsAnswer → Verdict Outcome
 runsMeans (Given o) = accepted (outcomeMeans o)

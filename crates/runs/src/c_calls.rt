@@ -3,17 +3,18 @@ ghost use mathlib.Core.Path.{_≡_};
 ghost use Prim.Native.Nat.{_≤_};
 ghost use lib.ListN.{length};
 ghost use Rattle.buffers.specs.Overwrite.{Wrote};
-ghost use Rattle.sheet.specs.Answers.{answerOf};
-ghost use Rattle.runs.specs.Answers.{outcomeMeans, outcomeNumbers, outcomeCall};
-use crate::RunsOutcome;
-use crate::lines::run_lines;
-use crate::start::is_start;
+ghost use Rattle.answers.specs.Answers.{answerOf};
+ghost use Rattle.sheet_runs.specs.Outcome.{outcomeMeans};
+ghost use Rattle.runs.specs.Answers.{outcomeNumbers, outcomeCall};
+use answers::Answer;
+use answers::Reading;
+use answers::Refusal;
+use answers::refusal_of;
 use buffers::put_all;
 use reading::read;
-use sheet::Answer;
-use sheet::Reading;
-use sheet::Refusal;
-use sheet::refusal_of;
+use sheet_runs::RunsOutcome;
+use sheet_runs::lines::run_lines;
+use sheet_runs::start::is_start;
 
 // Writes 1, 0, 0 where the runs follow the trail, else 0, and the line and the bit where they disagree. Counts these three.
 pub fn two_runs(sheet: &[u8], start: &[u64], out: &mut [u64]) -> Answer

@@ -1,28 +1,18 @@
-// Two runs of a sheet (document 01, "Two runs"). The call that users make is `two_runs`.
+// The call on a sheet's two runs (document 01, "Two runs"): `two_runs`.
 pub mod c_calls;
-mod lines;
-mod start;
 
 ghost use mathlib.Core.Path.{_≡_};
 ghost use Rattle.sheet.specs.Asking.{verdict};
 ghost use Rattle.sheet.specs.Fields.{trailOf};
-ghost use Rattle.runs.specs.Outcome.{outcome};
+ghost use Rattle.sheet_runs.specs.Outcome.{outcome};
 ghost use Rattle.runs.specs.Answers.{runsMeans, runsAsks};
-use crate::lines::run_lines;
-use crate::start::is_start;
+use answers::Reading;
+use answers::Refusal;
+use answers::refusal_of;
 use reading::read;
-use sheet::Reading;
-use sheet::Refusal;
-use sheet::refusal_of;
-
-// The words of a run: 8 inputs and 248 lines at most.
-type Words = [u64; 256];
-
-// The runs follow the trail, or disagree with it, first in a line and there lowest in a bit.
-pub enum RunsOutcome {
-    Follows,
-    Disagree(usize, u32),
-}
+use sheet_runs::RunsOutcome;
+use sheet_runs::lines::run_lines;
+use sheet_runs::start::is_start;
 
 pub enum RunsAnswer {
     Given(RunsOutcome),

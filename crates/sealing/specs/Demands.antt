@@ -8,7 +8,7 @@ use Rattle.buffers.specs.LittleEndian.{byteAt}
 use Rattle.sheet.specs.Asking.{allYes, verdict}
 use Rattle.sheet.specs.Fields.{headerOf, trailOf}
 use Rattle.sheet.specs.Questions.{questions}
-use Rattle.sheet.specs.Answers.{IsAccepted}
+use Rattle.sheet.specs.Questions.{IsAccepted}
 use Rattle.sealing.specs.Sealing.{sealed}
 use Rattle.sheet.specs.declared.Mode.the-variants.{Seal}
 

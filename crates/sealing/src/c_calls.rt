@@ -3,11 +3,11 @@ ghost use mathlib.Core.Path.{_≡_};
 ghost use Rattle.sheet.specs.Asking.{verdict};
 ghost use Rattle.sheet.specs.Fields.{headerOf};
 ghost use Rattle.sheet.specs.Questions.{questions};
-ghost use Rattle.sheet.specs.Answers.{answerOf};
+ghost use Rattle.answers.specs.Answers.{answerOf};
 ghost use Rattle.sheet.specs.declared.Mode.the-variants.{Seal};
 ghost use Rattle.sealing.specs.Sealing.{sealed};
-use sheet::Answer;
-use sheet::Reading;
+use answers::Answer;
+use answers::Reading;
 
 // Asks all questions but the checks', and writes every block's check. Counts the blocks.
 pub fn seal(sheet: &mut [u8]) -> Answer

@@ -7,14 +7,14 @@ ghost use lib.ListN.{length};
 ghost use Rattle.sheet.specs.Asking.{verdict};
 ghost use Rattle.sheet.specs.Fields.{headerOf};
 ghost use Rattle.sheet.specs.Questions.{questions};
-ghost use Rattle.sheet.specs.Answers.{readingMeans};
+ghost use Rattle.answers.specs.Answers.{readingMeans};
 ghost use Rattle.sheet.specs.declared.Mode.the-variants.{Seal};
 ghost use Rattle.sealing.specs.Sealing.{withChecks, sealed};
+use answers::Reading;
 use block_questions::checks::block_check;
 use buffers::put_number;
 use reading::stages;
 use sheet::Mode;
-use sheet::Reading;
 
 // Asks all questions but the checks', and writes every block's check where the answers are yes. A refusal changes no byte.
 pub fn seal(sheet: &mut [u8]) -> Reading

@@ -7,7 +7,7 @@ use Rattle.buffers.specs.LittleEndian.{numberAt}
 use Rattle.sheet.specs.Fields.{headerOf}
 use Rattle.sheet.specs.Checks.{checkOf, checkPosition}
 use Rattle.sheet.specs.Questions.{lengthQuestions, checkQuestion, checkQuestions, questions}
-use Rattle.sheet.specs.Answers.{IsAccepted}
+use Rattle.sheet.specs.Questions.{IsAccepted}
 use Rattle.sheet.proofs.Asking.{yes-left, yes-right, yes-first, yes-at}
 
 pub accepted-checked : (s : List ℕ) → IsAccepted s → (b : ℕ) → b < headerOf s .blocks → numberAt 4 s (checkPosition b) ≡ checkOf s b

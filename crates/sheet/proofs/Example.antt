@@ -5,7 +5,7 @@ use mathlib.Core.List.{List, [], _∷_, _++_, map}
 use Prim.Native.Nat.{ℕ}
 use lib.ListN.{set, replicate}
 use Rattle.sheet.specs.Fields.{formOf, headerOf, trailOf, recordOf, recordPosition}
-use Rattle.sheet.specs.Answers.{IsAccepted}
+use Rattle.sheet.specs.Questions.{IsAccepted}
 use Rattle.sheet.specs.Example.{exampleSheet}
 use Rattle.sheet.specs.Asking.{Question, Verdict, allYes, verdict}
 use Rattle.sheet.specs.Asking.Verdict.{accepted, refused}

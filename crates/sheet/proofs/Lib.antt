@@ -2,8 +2,6 @@ pub mod FormSizes
 pub mod FieldBytes
 pub mod Asking
 pub mod Testing
-pub mod Answering
-pub mod Calling
 pub mod Settled
 pub mod TrailParts
 pub mod WellFormed

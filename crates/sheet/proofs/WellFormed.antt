@@ -18,7 +18,7 @@ use Rattle.trail.proofs.KindNumbers.{known}
 use Rattle.sheet.specs.Asking.{allYes}
 use Rattle.sheet.specs.Fields.{formOf, headerOf, inputDifference, recordOf, lineOf, trailOf}
 use Rattle.sheet.specs.Questions.{lengthQuestions, checkQuestions, inputRight, headerQuestions, operandsEarlier, operandsDiffer, amountRight, constantRight, unusedZero, recordQuestions, lineQuestions, laterQuestions, questions}
-use Rattle.sheet.specs.Answers.{IsAccepted}
+use Rattle.sheet.specs.Questions.{IsAccepted}
 use Rattle.sheet.specs.Facts.{Whole, Limited, SheetRead}
 use Rattle.sheet.specs.declared.Header.{Header}
 use Rattle.sheet.specs.declared.Record.{Record}

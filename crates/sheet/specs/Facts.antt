@@ -10,7 +10,7 @@ use Rattle.sheet.specs.Form.{widthMost, blocksMost}
 use Rattle.sheet.specs.Blocks.{blockBytes, lengthMost}
 use Rattle.sheet.specs.Fields.{headerOf, trailOf}
 use Rattle.sheet.specs.Questions.{lineBlocks}
-use Rattle.sheet.specs.Answers.{IsAccepted}
+use Rattle.sheet.specs.Questions.{IsAccepted}
 use Rattle.sheet.specs.declared.Header.{Header}
 
 -- what question 1 settles, which is asked before the form is known

@@ -1,8 +1,9 @@
 -- The questions of a sheet and of the calls on it (document 01, "Questions, in order"): each with its answer, its number and
 -- its place.
 use Prim.Native.Nat.{ℕ, _+_, _*_, _/_, _%_, _-_}
+use mathlib.Core.Path.{_≡_}
 use mathlib.Core.List.{List, [], _∷_, _++_}
-use mathlib.Core.Bool.{Bool, not, _&&_, _||_, cond}
+use mathlib.Core.Bool.{Bool, true, not, _&&_, _||_, cond}
 use lib.ListN.{length}
 use lib.Dec.{leb, ltb, eqb}
 use Rattle.words.specs.Words.{isWord}
@@ -13,7 +14,7 @@ use Rattle.trail.specs.Trail.{Trail}
 use Rattle.trail.specs.Runs.{isStart}
 use Rattle.sheet.specs.Form.{widthMost, recordBytes, recordsInBlock, tailBytes, inputsEnd}
 use Rattle.sheet.specs.Blocks.{blockBytes, checkOffset, lengthLeast, lengthMost}
-use Rattle.sheet.specs.Asking.{Question, ask}
+use Rattle.sheet.specs.Asking.{Question, ask, allYes}
 use Rattle.sheet.specs.Fields.{headerOf, inputDifference, recordOf}
 use Rattle.sheet.specs.Checks.{checkOf, checkPosition}
 use Rattle.sheet.specs.declared.Form.{Form}
@@ -144,6 +145,10 @@ laterQuestions mode s h =
 -- the sixteen questions, in order
 unfoldable pub questions : Mode → List ℕ → List Question
 questions mode s = lengthQuestions s ++ (checkQuestions mode s (headerOf s) ++ laterQuestions mode s (headerOf s))
+
+-- an accepted sheet is one with yes to all of questions 1 to 16
+abbrev pub IsAccepted : List ℕ → Type 0
+IsAccepted s = allYes (questions Read s) ≡ true
 
 -- Calls on a sheet go through all of these, then such of the following as concern what the call takes, place 0.
 

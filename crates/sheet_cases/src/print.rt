@@ -1,7 +1,7 @@
 // What reading and sealing answer, as text: each function takes the position to put it at and tells the position after it.
 ghost use mathlib.Core.Path.{_≡_};
 ghost use lib.ListN.{length};
-use sheet::Reading;
+use answers::Reading;
 use text::bounded::put_number;
 use text::bounded::put_refused;
 use text::bounded::put_text;

@@ -12,7 +12,7 @@ use Rattle.sheet.specs.Blocks.{blockBytes}
 use Rattle.trail.specs.WellFormed.{WellFormed, Sized}
 use Rattle.sheet.specs.Questions.{lineBlocks}
 use Rattle.sheet.specs.Fields.{formOf, headerOf, trailOf}
-use Rattle.sheet.specs.Answers.{IsAccepted}
+use Rattle.sheet.specs.Questions.{IsAccepted}
 use Rattle.sealing.specs.Sealing.{withChecks}
 use Rattle.sheet.specs.declared.Form.{Form}
 

@@ -1,6 +1,7 @@
 // A sheet's fields at their offsets (document 01, "The sheet").
 pub mod lines;
 pub mod predicates;
+pub mod sizes;
 
 ghost use mathlib.Core.Path.{_≡_};
 ghost use Prim.Native.Nat.{_+_, _*_, _<_, _≤_};
@@ -10,15 +11,15 @@ ghost use Rattle.sheet.specs.Form.{wordBytes, recordBytes, inputsEnd};
 ghost use Rattle.sheet.specs.Blocks.{lengthLeast};
 ghost use Rattle.sheet.specs.Fields.{headerOf, inputDifference, recordFrom, recordOf};
 ghost use Rattle.sheet.specs.Facts.{Whole, Limited};
+use crate::sizes::record_bytes;
+use crate::sizes::records_in_block;
+use crate::sizes::word_bytes;
 use buffers::byte_at;
 use buffers::u16_at;
 use buffers::u32_at;
 use sheet::Form;
 use sheet::Header;
 use sheet::Record;
-use sheet::sizes::record_bytes;
-use sheet::sizes::records_in_block;
-use sheet::sizes::word_bytes;
 
 // The form, which is the only one that a mark tells, and the header's numbers.
 pub fn header_of(s: &[u8]) -> Header

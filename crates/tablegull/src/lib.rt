@@ -4,22 +4,21 @@ ghost use mathlib.Core.Path.{_≡_};
 ghost use Rattle.sheet.specs.Asking.{verdict};
 ghost use Rattle.sheet.specs.Fields.{headerOf};
 ghost use Rattle.sheet.specs.Questions.{questions};
-ghost use Rattle.sheet.specs.Answers.{answerOf};
+ghost use Rattle.answers.specs.Answers.{answerOf};
 ghost use Rattle.sheet.specs.declared.Mode.the-variants.{Read, Seal};
 ghost use Rattle.sealing.specs.Sealing.{sealed};
-ghost use Rattle.report.specs.Answers.{totalsCall};
-ghost use Rattle.report_buffer.specs.Answers.{lineReportCall, reportsCall};
+ghost use Rattle.report.specs.Answers.{totalsCall, lineReportCall, reportsCall};
 ghost use Rattle.runs.specs.Answers.{outcomeCall};
 ghost use Rattle.clauses.specs.Answers.{countsCall, listCall};
+use answers::Answer;
 use clauses::c_calls::clause_counts;
 use clauses::c_calls::line_clauses;
 use reading::c_calls::read;
+use report::c_calls::line_report;
+use report::c_calls::reports;
 use report::c_calls::totals;
-use report_buffer::c_calls::line_report;
-use report_buffer::c_calls::reports;
 use runs::c_calls::two_runs;
 use sealing::c_calls::seal;
-use sheet::Answer;
 
 // Asks all questions of a sheet. Counts its lines.
 #[no_mangle]

@@ -1,8 +1,4 @@
-// What a trail's line is, and the word that it makes.
-ghost use mathlib.Core.Path.{_≡_};
-ghost use mathlib.Core.Bool.{true, cond};
-ghost use Prim.Native.Nat.{_^_, _≤_, _<_};
-ghost use Rattle.trail.specs.Kinds.{kindOf, usesSecond, usesAmount, makes};
+// What a trail's line is. A type alone: the word that a line makes is worked out in `line_words`.
 
 // A line: the kind's number, the amount, the two operands' words, the constant and the stated difference.
 pub struct Line {
@@ -12,31 +8,4 @@ pub struct Line {
     pub second: usize,
     pub constant: u64,
     pub difference: u64,
-}
-
-// The word of n bits that a line makes from its operands' words.
-pub fn word_made(n: u32, line: Line, x: u64, y: u64) -> u64
-    requires { ⌜ (1 ≤ n) × (n ≤ 64) × (x < 2 ^ n)
-        × (usesAmount (kindOf (line .kind)) ≡ true → ((1 ≤ line .amount) × (line .amount < n))) ⌝ }
-    ensures { λ r. ⌜ r ≡ makes n line x y ⌝ }
-{
-    let kind = line.kind;
-    match kind {
-        1..=2 => x ^ other_input(line, y),
-        3 => words::rotate_left(n, line.amount, x),
-        4 => words::rotate_right(n, line.amount, x),
-        5..=6 => words::add(n, x, other_input(line, y)),
-        _ => 0,
-    }
-}
-
-// What an XOR or an addition takes beside its first operand: the second operand's word, or the constant.
-fn other_input(line: Line, y: u64) -> u64
-    ensures { λ r. ⌜ r ≡ cond (usesSecond (kindOf (line .kind))) y (line .constant) ⌝ }
-{
-    let kind = line.kind;
-    match kind {
-        1 | 5 => y,
-        _ => line.constant,
-    }
 }

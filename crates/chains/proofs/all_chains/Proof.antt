@@ -3,7 +3,7 @@ use native.Mathlib.Omega.{arith}
 use lib.Pow.{pow-mono}
 use borrow.Author.Needs.{needs}
 use Rattle.differential.proofs.Weights.{costs-le}
-use Rattle.chains.proofs.Ends.{Remaining, all-remaining, none-remaining, ends-count, ending}
+use Rattle.chain_costs.proofs.Ends.{Remaining, all-remaining, none-remaining, ends-count, ending}
 use Rattle.chains.proofs.all_chains.Statement.{statement}
 use Rattle.chains.proofs.all_chains.Tie as tie
 

@@ -1,7 +1,7 @@
 -- A chain ends where both bits below are 1 and the state one place below is 000.
 use native.Mathlib.Omega.{arith}
 use borrow.Author.Needs.{needs}
-use Rattle.chains.proofs.Ends.{ends-word}
+use Rattle.chain_costs.proofs.Ends.{ends-word}
 use Rattle.chains.proofs.chain_ends.Statement.{statement}
 use Rattle.chains.proofs.chain_ends.Tie as tie
 

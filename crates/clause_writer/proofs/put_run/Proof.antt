@@ -7,7 +7,7 @@ use lib.ListN.{length}
 use Rattle.words.specs.Below.{concat}
 use Rattle.buffers.specs.Overwrite.{Wrote}
 use Rattle.cnf.specs.Formulas.{numbers}
-use Rattle.cnf.proofs.Writing.{rows-start, row-fits, rows-next}
+use Rattle.gate_writer.proofs.Writing.{rows-start, row-fits, rows-next}
 use Rattle.clause_lists.specs.Lists.{runClauses}
 use Rattle.clause_writer.specs.Writing.{clausesOfBit}
 use Rattle.clause_writer.proofs.put_run.Statement.{statement}

@@ -1,6 +1,6 @@
 -- `clause_counts` reads, and counts what reading accepted.
 use borrow.Author.Needs.{needs}
-use Rattle.sheet.proofs.Calling.{calling}
+use Rattle.answers.proofs.Calling.{calling}
 use Rattle.clauses.proofs.clause_counts.Statement.{statement}
 use Rattle.clauses.proofs.clause_counts.Tie as tie
 

@@ -1,7 +1,7 @@
 -- `line_list` reads, asks for the line and for the room, in that order, and writes only then.
 use borrow.Author.Needs.{needs}
 use native.Mathlib.Omega.{arith}
-use Rattle.sheet.proofs.Calling.{calling, kept, written}
+use Rattle.answers.proofs.Calling.{calling, kept, written}
 use Rattle.clauses.proofs.line_list.Statement.{statement}
 use Rattle.clauses.proofs.line_list.Tie as tie
 

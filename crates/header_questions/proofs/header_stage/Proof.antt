@@ -4,7 +4,7 @@ use borrow.Author.Needs.{needs}
 use Rattle.sheet.specs.Questions.{headerQuestions}
 use Rattle.sheet.proofs.FormSizes.{sizes}
 use Rattle.sheet.proofs.Testing.{granted, within-least, within-most}
-use Rattle.sheet.proofs.Answering.{stage}
+use Rattle.answers.proofs.Answering.{stage}
 use Rattle.header_questions.proofs.header_stage.Tie as tie
 use Rattle.header_questions.proofs.header_stage.Statement.{statement}
 

@@ -7,7 +7,7 @@ use borrow.Author.Needs.{needs}
 use Rattle.sheet.specs.Questions.{within, recordQuestions}
 use Rattle.sheet.proofs.FormSizes.{sizes}
 use Rattle.sheet.proofs.Testing.{granted, within-least, within-most}
-use Rattle.sheet.proofs.Answering.{stage}
+use Rattle.answers.proofs.Answering.{stage}
 use Rattle.line_questions.proofs.record_stage.Tie as tie
 use Rattle.line_questions.proofs.record_stage.Statement.{statement}
 

@@ -1,6 +1,6 @@
 -- The text is of a sheet that reading accepted, with the parts that it gave.
 use borrow.Author.Needs.{needs}
-use Rattle.sheet.proofs.Calling.{calling}
+use Rattle.answers.proofs.Calling.{calling}
 use Rattle.printing.proofs.put_text.Statement.{statement}
 use Rattle.printing.proofs.put_text.Tie as tie
 

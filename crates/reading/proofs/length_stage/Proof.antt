@@ -2,7 +2,7 @@
 use borrow.Author.Needs.{needs}
 use Rattle.sheet.specs.Questions.{within, lengthQuestions}
 use Rattle.sheet.proofs.Testing.{granted, within-least}
-use Rattle.sheet.proofs.Answering.{stage}
+use Rattle.answers.proofs.Answering.{stage}
 use Rattle.reading.proofs.length_stage.Tie as tie
 use Rattle.reading.proofs.length_stage.Statement.{statement}
 

@@ -4,7 +4,7 @@ use lib.ListN.{length}
 use borrow.Author.Needs.{needs}
 use Rattle.sheet.specs.Questions.{questions}
 use Rattle.sheet.specs.Facts.{Whole}
-use Rattle.sheet.proofs.Answering.{asked, hand-on}
+use Rattle.answers.proofs.Answering.{asked, hand-on}
 use Rattle.sheet.proofs.Asking.{go-on}
 use Rattle.sheet.proofs.Settled.{whole}
 use Rattle.reading.proofs.stages.Tie as tie

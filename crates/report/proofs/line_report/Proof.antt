@@ -1,6 +1,6 @@
 -- `line_report` reads, asks for the line, and reports it.
 use borrow.Author.Needs.{needs}
-use Rattle.sheet.proofs.Calling.{calling}
+use Rattle.answers.proofs.Calling.{calling}
 use Rattle.report.proofs.line_report.Tie as tie
 use Rattle.report.proofs.line_report.Statement.{statement}
 

@@ -1,6 +1,6 @@
 -- `sheet_totals` reads, and sums the reports of what reading accepted.
 use borrow.Author.Needs.{needs}
-use Rattle.sheet.proofs.Calling.{calling}
+use Rattle.answers.proofs.Calling.{calling}
 use Rattle.report.proofs.sheet_totals.Tie as tie
 use Rattle.report.proofs.sheet_totals.Statement.{statement}
 

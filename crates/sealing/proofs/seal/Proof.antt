@@ -2,10 +2,10 @@
 use mathlib.Core.Path.{sym, ap, _∙_, subst}
 use borrow.Author.Needs.{needs}
 use Rattle.sheet.specs.Questions.{questions}
-use Rattle.sheet.specs.Answers.{readingMeans}
+use Rattle.answers.specs.Answers.{readingMeans}
 use Rattle.sealing.specs.Sealing.{withChecks}
 use Rattle.sheet.specs.Facts.{Whole}
-use Rattle.sheet.proofs.Answering.{asked}
+use Rattle.answers.proofs.Answering.{asked}
 use Rattle.sheet.proofs.Asking.{yes-left, no-verdict}
 use Rattle.sealing.proofs.WrittenChecks.{sealed-yes, sealed-no}
 use Rattle.sheet.proofs.Settled.{whole}

@@ -7,9 +7,9 @@ use Rattle.words.specs.Below.{concat}
 use Rattle.sheet.specs.Asking.{verdict}
 use Rattle.sheet.specs.Asking.Verdict.{accepted}
 use Rattle.sheet.specs.Questions.{checkQuestion, checkQuestions}
-use Rattle.sheet.specs.Answers.{readingMeans}
+use Rattle.answers.specs.Answers.{readingMeans}
 use Rattle.sheet.specs.declared.Header.{Header}
-use Rattle.sheet.specs.declared.Reading.{Reading}
+use Rattle.answers.specs.declared.Reading.{Reading}
 use Rattle.sheet.specs.declared.Mode.{Mode}
 use Rattle.sheet.specs.declared.Mode.the-variants.{Read, Seal}
 use Rattle.block_questions.proofs.checks.check_stage.Tie as tie

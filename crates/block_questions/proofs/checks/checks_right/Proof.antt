@@ -6,7 +6,7 @@ use mathlib.Core.Bool.{true}
 use Rattle.words.specs.Below.{concat}
 use Rattle.sheet.specs.Asking.{allYes}
 use Rattle.sheet.specs.Questions.{checkQuestion}
-use Rattle.sheet.proofs.Answering.{turn}
+use Rattle.answers.proofs.Answering.{turn}
 use Rattle.block_questions.proofs.checks.checks_right.Tie as tie
 use Rattle.block_questions.proofs.checks.checks_right.Statement.{statement}
 

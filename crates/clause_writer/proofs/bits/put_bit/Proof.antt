@@ -10,11 +10,12 @@ use lib.ListN.{length}
 use Rattle.words.specs.Below.{concat}
 use Rattle.buffers.specs.Overwrite.{Wrote}
 use Rattle.cnf.specs.Formulas.{numbers}
-use Rattle.cnf.proofs.Writing.{rows-start, row-fits, rows-next}
-use Rattle.clause_writer.specs.declared.LineRun.{LineRun}
-use Rattle.clause_writer.specs.Writing.{outputsOf, clausesOfOutput, clausesOfBit}
-use Rattle.clause_writer.proofs.RunLiterals.{made-held}
-use Rattle.clause_writer.proofs.Gathering.{gathers-as}
+use Rattle.gate_writer.proofs.Writing.{rows-start, row-fits, rows-next}
+use Rattle.run_literals.specs.declared.LineRun.{LineRun}
+use Rattle.bit_gates.specs.Gates.{outputsOf}
+use Rattle.clause_writer.specs.Writing.{clausesOfOutput, clausesOfBit}
+use Rattle.run_literals.proofs.RunLiterals.{made-held}
+use Rattle.bit_gates.proofs.Gathering.{gathers-as}
 use Rattle.clause_writer.proofs.WrittenBits.{bit-outputs, output-tied}
 use Rattle.clause_writer.proofs.bits.put_bit.Statement.{statement}
 use Rattle.clause_writer.proofs.bits.put_bit.Tie as tie

@@ -10,9 +10,9 @@ use lib.ListN.{length, length-append}
 use lib.Seq.{length-take-le}
 use Rattle.buffers.specs.Overwrite.{Wrote}
 use Rattle.cnf.specs.Formulas.{numbers}
-use Rattle.cnf.specs.Tables.{tableGate, Small}
-use Rattle.cnf.proofs.Signs.{same}
-use Rattle.clause_writer.specs.Writing.{gathered}
+use Rattle.gate_writer.specs.Tables.{tableGate, Small}
+use Rattle.gate_writer.proofs.Signs.{same}
+use Rattle.bit_gates.specs.Gates.{gathered}
 use Rattle.clause_writer.proofs.bits.put_output.Statement.{statement}
 use Rattle.clause_writer.proofs.bits.put_output.Tie as tie
 

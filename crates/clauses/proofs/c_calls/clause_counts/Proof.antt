@@ -2,8 +2,8 @@
 use borrow.Author.Needs.{needs}
 use mathlib.Core.Path.{subst}
 use Rattle.buffers.specs.Overwrite.{Wrote}
-use Rattle.line_clauses.specs.declared.Counts.{Counts}
-use Rattle.sheet.proofs.Calling.{calling, c-kept, c-written}
+use Rattle.clause_sizes.specs.declared.Counts.{Counts}
+use Rattle.answers.proofs.Calling.{calling, c-kept, c-written}
 use Rattle.clauses.specs.Answers.{countsNumbers}
 use Rattle.clauses.proofs.c_calls.clause_counts.Statement.{statement}
 use Rattle.clauses.proofs.c_calls.clause_counts.Tie as tie

@@ -1,7 +1,7 @@
 -- The answer of `line_list`, as a struct.
 use borrow.Author.Needs.{needs}
 use mathlib.Core.Path.{sym, ap, _∙_}
-use Rattle.sheet.specs.Answers.{answerOf}
+use Rattle.answers.specs.Answers.{answerOf}
 use Rattle.clauses.specs.Answers.{listMeans}
 use Rattle.clauses.proofs.c_calls.line_clauses.Statement.{statement}
 use Rattle.clauses.proofs.c_calls.line_clauses.Tie as tie

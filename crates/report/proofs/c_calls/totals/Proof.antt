@@ -2,9 +2,9 @@
 use borrow.Author.Needs.{needs}
 use mathlib.Core.Path.{subst}
 use Rattle.buffers.specs.Overwrite.{Wrote}
-use Rattle.report.specs.Totals.{Sums}
+use Rattle.sheet_reports.specs.Totals.{Sums}
 use Rattle.report.specs.Answers.{totalsNumbers}
-use Rattle.sheet.proofs.Calling.{calling, c-kept, c-written}
+use Rattle.answers.proofs.Calling.{calling, c-kept, c-written}
 use Rattle.report.proofs.c_calls.totals.Statement.{statement}
 use Rattle.report.proofs.c_calls.totals.Tie as tie
 

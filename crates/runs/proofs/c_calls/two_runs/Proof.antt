@@ -2,8 +2,8 @@
 use borrow.Author.Needs.{needs}
 use mathlib.Core.Path.{subst}
 use Rattle.buffers.specs.Overwrite.{Wrote}
-use Rattle.sheet.proofs.Calling.{c-kept, c-written}
-use Rattle.runs.specs.Outcome.{Outcome}
+use Rattle.answers.proofs.Calling.{c-kept, c-written}
+use Rattle.sheet_runs.specs.Outcome.{Outcome}
 use Rattle.runs.specs.Answers.{outcomeNumbers}
 use Rattle.runs.proofs.StartTest.{running}
 use Rattle.runs.proofs.c_calls.two_runs.Statement.{statement}

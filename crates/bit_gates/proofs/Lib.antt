@@ -1,0 +1,4 @@
+pub mod GateTables
+pub mod RunTables
+pub mod Gathering
+pub mod OutputCounts

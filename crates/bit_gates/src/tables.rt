@@ -1,0 +1,38 @@
+// The tables of a line's gates: bit t of a table is the output at the inputs' row t, the first input as highest bit. A constant's
+// bit and the carry into bit 0 are no literals: they choose the table. With fewer than three literals its lower rows serve.
+ghost use Prim.Native.Nat.{_<_};
+ghost use Rattle.clause_lists.specs.Kinds.{parity, twoOrMore};
+ghost use Rattle.run_literals.specs.Run.{ProperRun};
+ghost use Rattle.bit_gates.specs.Gates.{inputsIn, IsTable};
+use arithmetic::bit;
+use run_literals::LineRun;
+
+const ODD: u32 = 0b1001_0110;
+
+const EVEN: u32 = 0b0110_1001;
+
+const ONE_OR_MORE: u32 = 0b1111_1110;
+
+const TWO_OR_MORE: u32 = 0b1110_1000;
+
+// The result's bit i: the XOR of its inputs.
+pub(crate) fn result_table(run: LineRun, i: u32) -> u32
+    requires { ⌜ ProperRun run × (i < run .width) ⌝ }
+    ensures { λ r. ⌜ IsTable parity (inputsIn run i) r ⌝ }
+{
+    let line = run.line;
+    if bit(line.constant, i) { EVEN } else { ODD }
+}
+
+// The carry out of bit i: whether two or more of the inputs are 1.
+pub(crate) fn carry_table(run: LineRun, i: u32) -> u32
+    requires { ⌜ ProperRun run × (i < run .width) ⌝ }
+    ensures { λ r. ⌜ IsTable twoOrMore (inputsIn run i) r ⌝ }
+{
+    let line = run.line;
+    if bit(line.constant, i) {
+        ONE_OR_MORE
+    } else {
+        TWO_OR_MORE
+    }
+}

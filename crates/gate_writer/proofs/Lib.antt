@@ -1,0 +1,3 @@
+pub mod Signs
+pub mod Tables
+pub mod Writing

@@ -1,0 +1,5 @@
+pub mod ProperLines
+pub mod SmallReports
+pub mod Matched
+pub mod Demand2
+pub mod Sums

@@ -1,0 +1,48 @@
+-- The totals of a range of lines (document 01, "Line reports").
+use Prim.Native.Nat.{ℕ, _+_, _*_, _≤_, _^_}
+use lib.Dec.{eqb}
+use Rattle.words.specs.Words.{value}
+use Rattle.words.specs.Below.{count, total}
+use Rattle.trail.specs.Trail.{Trail, lineCount}
+use Rattle.differential.specs.Unit.{unit}
+use Rattle.differential.specs.Report.{Report}
+use Rattle.sheet_reports.specs.Lines.{lineReport}
+use Rattle.sheet_reports.specs.declared.Totals.{Totals}
+
+-- impossible lines; the sum of the others' weights in sixteenths (halves times 16), every addition line counting; chains
+pub record Sums : Type 0 where
+  pub impossible : ℕ
+  pub weight : ℕ
+  pub chains : ℕ
+
+-- of a number of lines from line `from` on; an impossible line's weight and chains are 0
+unfoldable pub rangeTotals : Trail → ℕ → ℕ → Sums
+rangeTotals t from lines = record {
+  impossible = count lines (λ k. eqb (lineReport t (from + k) .number) 0);
+  weight = total lines (λ k. lineReport t (from + k) .weight);
+  chains = total lines (λ k. lineReport t (from + k) .chains);
+}
+
+-- the sheet's totals
+abbrev pub sheetTotals : Trail → Sums
+sheetTotals t = rangeTotals t 0 (lineCount t)
+
+-- what the code's totals mean
+abbrev pub sumsOf : Totals → Sums
+sumsOf s = record { impossible = s .impossible; weight = s .weight .0; chains = s .chains }
+
+-- ---- what inner functions of the code cite
+
+-- the totals with one report more
+abbrev pub withReport : Sums → Report → Sums
+withReport s r = record {
+  impossible = s .impossible + value (eqb (r .number) 0);
+  weight = s .weight + r .weight;
+  chains = s .chains + r .chains;
+}
+
+-- a report's values at widths up to 32
+pub record SmallReport (r : Report) : Type 0 where
+  pub weight : r .weight ≤ unit * 32
+  pub chains : r .chains ≤ 32
+  pub fitting : r .fitting ≤ 2 ^ 32

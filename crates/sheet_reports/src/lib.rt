@@ -1,0 +1,96 @@
+// The reports of a sheet that was read: one line's differential and report, and the sum of all reports (document 01, "Line reports").
+ghost use mathlib.Core.Path.{_≡_};
+ghost use Prim.Native.Nat.{_<_, _^_};
+ghost use Rattle.sheet.specs.Fields.{trailOf};
+ghost use Rattle.sheet.specs.Facts.{SheetRead};
+ghost use Rattle.differential.specs.Report.{reportMeans};
+ghost use Rattle.sheet_reports.specs.Lines.{differentialOf, lineReport};
+ghost use Rattle.sheet_reports.specs.Totals.{sumsOf, sheetTotals, withReport, SmallReport};
+use differential::Differential;
+use differential::LineReport;
+use differential::Sixteenths;
+use line_reports::report;
+use sheet::Header;
+use sheet_fields::lines::difference_at;
+use sheet_fields::lines::line_at;
+use units::in_sixteenths;
+
+// The impossible lines, the sum of the others' weights, and the chains.
+pub struct Totals {
+    pub impossible: u32,
+    pub weight: Sixteenths,
+    pub chains: u32,
+}
+
+// Line k's differential.
+pub fn differential_at(sheet: &[u8], header: Header, k: usize) -> Differential
+    requires { ⌜ SheetRead (now sheet) header × (k < header .lines) ⌝ }
+    ensures { λ r. ⌜ r ≡ differentialOf (trailOf (now (sheet .entry))) k ⌝ }
+{
+    let line = line_at(sheet, header, k);
+    let first = difference_at(sheet, header, line.first);
+    let second = difference_at(sheet, header, line.second);
+    Differential {
+        width: header.width,
+        line,
+        first,
+        second,
+    }
+}
+
+// The report of line k.
+pub fn report_at(sheet: &[u8], header: Header, k: usize) -> LineReport
+    requires { ⌜ SheetRead (now sheet) header × (k < header .lines) ⌝ }
+    ensures { λ r. ⌜ reportMeans r ≡ lineReport (trailOf (now (sheet .entry))) k ⌝ }
+{
+    report(differential_at(sheet, header, k))
+}
+
+// The totals of all lines.
+pub fn sum_reports(sheet: &[u8], header: Header) -> Totals
+    requires { ⌜ SheetRead (now sheet) header ⌝ }
+    ensures { λ r. ⌜ sumsOf r ≡ sheetTotals (trailOf (now (sheet .entry))) ⌝ }
+{
+    let lines = header.lines;
+    let mut sums = Totals {
+        impossible: 0,
+        weight: Sixteenths(0),
+        chains: 0,
+    };
+    let mut k = 0;
+    while k < lines {
+        let next = with_line(sums, report_at(sheet, header, k));
+        sums = next;
+        k += 1;
+    }
+    sums
+}
+
+// The totals with one line more.
+fn with_line(sums: Totals, report: LineReport) -> Totals
+    requires { ⌜ (sums .impossible < 2 ^ 16) × (sums .weight .0 < 2 ^ 20) × (sums .chains < 2 ^ 20) × SmallReport (reportMeans report) ⌝ }
+    ensures { λ r. ⌜ sumsOf r ≡ withReport (sumsOf sums) (reportMeans report) ⌝ }
+{
+    let weight = sums.weight;
+    match report {
+        LineReport::Impossible => Totals {
+            impossible: sums.impossible + 1,
+            weight,
+            chains: sums.chains,
+        },
+        LineReport::Certain => sums,
+        LineReport::Halves(bits) => {
+            let cost = in_sixteenths(bits);
+            Totals {
+                impossible: sums.impossible,
+                weight: Sixteenths(weight.0 + cost.0),
+                chains: sums.chains,
+            }
+        }
+        LineReport::Counted(cost, chains, _) => Totals {
+            impossible: sums.impossible,
+            weight: Sixteenths(weight.0 + cost.0),
+            chains: sums.chains + chains,
+        },
+    }
+}
