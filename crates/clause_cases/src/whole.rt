@@ -1,16 +1,16 @@
 // All lists of a sheet, by a checksum of their numbers.
-use crate::print::put_counts;
-use crate::print::put_refusal;
-use crate::sheets::SHEET_BYTES;
-use crate::signs::folded;
+use crate::SHEET_BYTES;
+use crate::print::print_counts;
+use case_text::checksum::with_number;
+use case_text::parse::take_sheet;
+use case_text::print::print_number;
+use case_text::print::print_refused;
 use clauses::CountsAnswer;
 use clauses::ListAnswer;
 use clauses::clause_counts;
 use clauses::line_list;
 use std::num::wrapping_add_u64;
-use text::bounded::put_number;
-use text::checksum::with_number;
-use text::parse::take_sheet;
+use text::signs::magnitude;
 
 // The lines of the longest sheet, and the numbers of the longest list.
 const MOST_LINES: usize = 248;
@@ -18,26 +18,28 @@ const MOST_LINES: usize = 248;
 const LIST_NUMBERS: usize = 4944;
 
 // How many numbers there were, and a checksum of them in their order.
-pub struct Fold {
+struct Fold {
     numbers: u64,
     checksum: u64,
 }
 
 // Answers a case `SHEET`.
-pub fn run_whole(line: &[u8], from: usize, out: &mut [u8], at: usize) -> usize {
+pub fn run_whole(line: &[u8], from: usize) {
     let mut sheet = [0u8; SHEET_BYTES];
     let length = take_sheet(&mut sheet, line, from);
-    put_whole(out, at, &sheet[0..length])
+    print_whole(&sheet[0..length]);
 }
 
 // Both counts of a sheet, and what its lists come to.
-fn put_whole(out: &mut [u8], at: usize, sheet: &[u8]) -> usize {
+fn print_whole(sheet: &[u8]) {
     match clause_counts(sheet) {
         CountsAnswer::Given(counts) => {
-            let counted = put_counts(out, at, counts);
-            put_fold(out, counted, fold_lists(sheet))
+            print_counts(counts);
+            let fold = fold_lists(sheet);
+            print_number(b", numbers ", fold.numbers);
+            print_number(b", checksum ", fold.checksum);
         }
-        CountsAnswer::Refused(refusal) => put_refusal(out, at, refusal),
+        CountsAnswer::Refused(refusal) => print_refused(refusal.number, refusal.place),
     }
 }
 
@@ -82,8 +84,11 @@ fn with_numbers(fold: Fold, numbers: &[i32]) -> Fold {
     }
 }
 
-// Both as text.
-fn put_fold(out: &mut [u8], at: usize, fold: Fold) -> usize {
-    let counted = put_number(out, at, b", numbers ", fold.numbers);
-    put_number(out, counted, b", checksum ", fold.checksum)
+// The size and the sign of a number as one number: twice its size, and 1 more where it is negative.
+fn folded(number: i32) -> u64 {
+    let twice = 2 * (magnitude(number) as u64);
+    if number < 0 {
+        return twice + 1;
+    }
+    twice
 }

@@ -2,10 +2,10 @@
 //
 // A case is a line of standard input, `TEXT FILE`, and FILE is the name of a sheet. After the case its text is printed: the
 // `report` of the sheet, its `clauses`, or the `header` of these.
+use case_text::parse::find;
 use libc::STDIN_FILENO;
 use libc::STDOUT_FILENO;
 use printing::Text;
-use text::parse::find;
 
 // Room for all cases.
 const CASES_BYTES: usize = 4096;

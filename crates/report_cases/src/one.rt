@@ -1,18 +1,18 @@
 // One differential: its report held against the count.
-use crate::build::differential_of;
-use crate::build::report_of;
-use crate::print::put_refusal;
-use crate::print::put_report;
+use crate::line_sheet::differential_of;
+use crate::line_sheet::report_of;
+use crate::rows::print_report;
 use answers::Refusal;
 use brute_force::agree::agrees;
 use brute_force::count::count_fitting;
 use brute_force::count::operand_bits;
+use case_text::parse::number;
+use case_text::print::print;
+use case_text::print::print_number;
+use case_text::print::print_refused;
 use differential::Differential;
 use differential::LineReport;
 use report::LineAnswer;
-use text::bounded::put_number;
-use text::bounded::put_text;
-use text::parse::number;
 
 // The report, the number of operand values that fit, and whether the two agree; or that there is no report, or that there
 // are too many operand values to count.
@@ -42,24 +42,20 @@ pub fn compare(d: Differential) -> Outcome {
 }
 
 // Answers a case `KIND WIDTH AMOUNT CONSTANT FIRST SECOND DIFFERENCE`: the report, `count` with the count, and the verdict.
-pub fn run_one(line: &[u8], from: usize, out: &mut [u8], at: usize) -> usize {
+pub fn run_one(line: &[u8], from: usize) {
     match compare(differential_in(line, from)) {
         Outcome::Reported(report, count, right) => {
-            let reported = put_report(out, at, report);
-            let counted = put_number(out, reported, b", count ", count);
-            put_verdict(out, counted, right)
+            print_report(report);
+            print_number(b", count ", count);
+            if right {
+                print(b", right");
+            } else {
+                print(b", wrong");
+            }
         }
-        Outcome::Refused(refusal) => put_refusal(out, at, refusal),
-        Outcome::Uncounted => put_text(out, at, b" not counted"),
+        Outcome::Refused(refusal) => print_refused(refusal.number, refusal.place),
+        Outcome::Uncounted => print(b" not counted"),
     }
-}
-
-// Whether report and count agree.
-fn put_verdict(out: &mut [u8], at: usize, right: bool) -> usize {
-    if right {
-        return put_text(out, at, b", right");
-    }
-    put_text(out, at, b", wrong")
 }
 
 // The differential that a line's numbers are.

@@ -1,4 +1,6 @@
-// A report's numbers, as in the report buffer.
+// A report's numbers, as in the report buffer, and as text.
+use case_text::print::print;
+use case_text::print::print_number;
 use differential::LineReport;
 use differential::WholeBits;
 use units::in_sixteenths;
@@ -38,4 +40,19 @@ fn sixteenths_of(bits: WholeBits) -> u64 {
     }
     let weight = in_sixteenths(bits);
     weight.0 as u64
+}
+
+// A report as ` NAME WEIGHT CHAINS N`.
+pub fn print_report(report: LineReport) {
+    let row = row_of(report);
+    let number = row.number;
+    match number {
+        0 => print(b" impossible"),
+        1 => print(b" certain"),
+        2 => print(b" halves"),
+        _ => print(b" counted"),
+    }
+    print_number(b" ", row.weight);
+    print_number(b" ", row.chains);
+    print_number(b" ", row.fitting);
 }

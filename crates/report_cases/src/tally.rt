@@ -2,10 +2,10 @@
 use crate::one::Outcome;
 use crate::rows::Row;
 use crate::rows::row_of;
+use case_text::checksum::with_number;
+use case_text::print::print_number;
 use differential::LineReport;
 use std::num::wrapping_add_u64;
-use text::bounded::put_number;
-use text::checksum::with_number;
 
 // How many there were, how many impossible, how many not as the count says; the sums of their numbers, modulo 2^64; and a
 // checksum of all numbers in their order.
@@ -63,17 +63,12 @@ fn with_numbers(checksum: u64, row: Row) -> u64 {
 }
 
 // The tally as text.
-pub fn put_tally(out: &mut [u8], at: usize, tally: Tally) -> usize {
-    let differentials = put_number(out, at, b" ", tally.differentials);
-    let impossible = put_number(out, differentials, b", impossible ", tally.impossible);
-    let wrong = put_number(out, impossible, b", wrong ", tally.wrong);
-    put_sums(out, wrong, tally)
-}
-
-// The sums and the checksum.
-fn put_sums(out: &mut [u8], at: usize, tally: Tally) -> usize {
-    let weight = put_number(out, at, b", weight ", tally.weight);
-    let chains = put_number(out, weight, b", chains ", tally.chains);
-    let fitting = put_number(out, chains, b", N ", tally.fitting);
-    put_number(out, fitting, b", checksum ", tally.checksum)
+pub fn print_tally(tally: Tally) {
+    print_number(b" ", tally.differentials);
+    print_number(b", impossible ", tally.impossible);
+    print_number(b", wrong ", tally.wrong);
+    print_number(b", weight ", tally.weight);
+    print_number(b", chains ", tally.chains);
+    print_number(b", N ", tally.fitting);
+    print_number(b", checksum ", tally.checksum);
 }

@@ -1,43 +1,38 @@
-// What reading and sealing answer, as text: each function takes the position to put it at and tells the position after it.
+// What reading and sealing answer, as text.
 ghost use mathlib.Core.Path.{_≡_};
 ghost use lib.ListN.{length};
 use answers::Reading;
-use text::bounded::put_number;
-use text::bounded::put_refused;
-use text::bounded::put_text;
+use case_text::print::print;
+use case_text::print::print_number;
+use case_text::print::print_refused;
 
 // An answer of reading or sealing after a text: ` accepted BLOCKS WIDTH INPUTS LINES` or ` refused NUMBER PLACE`.
-pub fn put_answer(out: &mut [u8], at: usize, before: &[u8], answer: Reading) -> usize {
-    let next = put_text(out, at, before);
+pub fn print_answer(before: &[u8], answer: Reading) {
+    print(before);
     match answer {
         Reading::Accepted(header) => {
-            let blocks = put_number(out, next, b" accepted ", header.blocks as u64);
-            let width = put_number(out, blocks, b" ", header.width as u64);
-            let inputs = put_number(out, width, b" ", header.inputs as u64);
-            put_number(out, inputs, b" ", header.lines as u64)
+            print_number(b" accepted ", header.blocks as u64);
+            print_number(b" ", header.width as u64);
+            print_number(b" ", header.inputs as u64);
+            print_number(b" ", header.lines as u64);
         }
-        Reading::Refused(refusal) => {
-            put_refused(out, next, refusal.number as u64, refusal.place)
-        }
+        Reading::Refused(refusal) => print_refused(refusal.number, refusal.place),
     }
 }
 
 // Every byte that changed, with its offset, as ` OFFSET=VALUE`.
-pub fn put_changes(out: &mut [u8], at: usize, before: &[u8], after: &[u8]) -> usize
+pub fn print_changes(before: &[u8], after: &[u8])
     requires { ⌜ length (now before) ≡ length (now after) ⌝ }
 {
-    let mut next = at;
     for i in 0..after.len() {
-        next = put_change(out, next, i, before[i], after[i]);
+        print_change(i, before[i], after[i]);
     }
-    next
 }
 
 // The byte at an offset, if it changed.
-fn put_change(out: &mut [u8], at: usize, offset: usize, before: u8, after: u8) -> usize {
-    if before == after {
-        return at;
+fn print_change(offset: usize, before: u8, after: u8) {
+    if before != after {
+        print_number(b" ", offset as u64);
+        print_number(b"=", after as u64);
     }
-    let next = put_number(out, at, b" ", offset as u64);
-    put_number(out, next, b"=", after as u64)
 }

@@ -1,7 +1,3 @@
-// Text for programs: numbers taken out of it, words and numbers put into lent buffers or gathered for standard output, and a
-// checksum of numbers.
-pub mod bounded;
-pub mod checksum;
-pub mod parse;
+// Text for programs: words and numbers gathered for standard output.
 pub mod signs;
 pub mod stream;

@@ -1,8 +1,8 @@
 // Text for standard output, gathered in a buffer: each function takes the position to put it at and tells the position after
 // it. Where there may be too little room, what was gathered is written out first, so that nothing is left out.
 ghost use Prim.Native.Nat.{_+_, _≤_, _<_};
-use crate::bounded::write_first;
 use crate::signs::magnitude;
+use libc::STDOUT_FILENO;
 
 // Enough that a system call's cost is spread over a thousand numbers.
 pub const OUTPUT_BYTES: usize = 8192;
@@ -89,6 +89,13 @@ fn with_room(out: &[u8; OUTPUT_BYTES], at: usize) -> usize
 // Writes out what was gathered before a position.
 pub fn write_out(out: &[u8; OUTPUT_BYTES], at: usize) {
     write_first(out, at);
+}
+
+// Writes a buffer's first bytes to standard output.
+fn write_first(out: &[u8], count: usize) {
+    if count <= out.len() {
+        io::write_all(STDOUT_FILENO, &out[0..count]);
+    }
 }
 
 // A number in decimal, where there is room for it. Nearly all numbers, those of clauses among them, have at most five digits,

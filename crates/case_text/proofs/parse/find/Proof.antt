@@ -2,8 +2,8 @@
 use Prim.Native.Nat.{_-_, _≤_}
 use lib.ListN.{length}
 use borrow.Author.Needs.{needs}
-use Rattle.text.proofs.parse.find.Statement.{statement}
-use Rattle.text.proofs.parse.find.Tie as tie
+use Rattle.case_text.proofs.parse.find.Statement.{statement}
+use Rattle.case_text.proofs.parse.find.Tie as tie
 
 abbrev Inv-loop : tie.InvT-loop
 Inv-loop text from byte at₀ at = (from ≤ at) × (at ≤ length text)

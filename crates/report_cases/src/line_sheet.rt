@@ -17,11 +17,15 @@ pub fn differential_of(
     second: u64,
     difference: u64,
 ) -> Differential {
+    let named = match kind {
+        1 | 5 => 1,
+        _ => 0,
+    };
     let line = Line {
         kind,
         amount,
         first: 0,
-        second: second_word(kind),
+        second: named,
         constant,
         difference,
     };
@@ -30,14 +34,6 @@ pub fn differential_of(
         line,
         first,
         second,
-    }
-}
-
-// The second operand's word; the field is 0 where it is not used.
-fn second_word(kind: u32) -> usize {
-    match kind {
-        1 | 5 => 1,
-        _ => 0,
     }
 }
 

@@ -4,8 +4,8 @@ use mathlib.Core.Path.{_≡_}
 use native.Mathlib.Omega.{arith}
 use lib.ListN.{length}
 use borrow.Author.Needs.{needs}
-use Rattle.text.proofs.parse.fill.Statement.{statement}
-use Rattle.text.proofs.parse.fill.Tie as tie
+use Rattle.case_text.proofs.parse.fill.Statement.{statement}
+use Rattle.case_text.proofs.parse.fill.Tie as tie
 
 abbrev Inv-loop : tie.InvT-loop
 Inv-loop sheet₀ line from at₀ sheet at = length sheet ≡ length sheet₀
