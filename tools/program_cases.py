@@ -1,14 +1,10 @@
-"""What the two programs and crates/program_cases are run on, and what they have to print.
+"""What the two programs are run on, and what they have to print: stdin and stdout of the crates trail_report and
+trail_clauses, a sheet of 248 lines each; and the cases of the same texts of several sheets, which crates/cases runs, with the
+sheets in its folder data. All of it comes from document 01, from this file and from oracle/trail.py, an independent reading of
+the document.
 
-    python3 tools/program_cases.py
-
-writes stdin and stdout of the crates trail_report and trail_clauses, a sheet of 248 lines each; and of the crate
-program_cases, which prints the same texts of several sheets, with the sheets in its folder data. All of it comes from
-document 01, from this file and from oracle/trail.py, an independent reading of the document: nothing that the programs print
-goes into it.
-
-A case of program_cases is a line `TEXT FILE`: the text that is printed, and the file of the sheet. The texts are `report`,
-`clauses`, and `header`, which is the first line of the clauses.
+A case is a line `TEXT FILE`: the text that is printed, and the file of the sheet. The texts are `report`, `clauses`, and
+`header`, which is the first line of the clauses.
 """
 from pathlib import Path
 
@@ -18,8 +14,6 @@ from report_cases import difference_made, some_line, spread, trail
 from sheet_cases import put, put_field
 
 ROOT = Path(__file__).resolve().parent.parent
-# The program's room for its cases.
-MOST_CASES = 4096
 # The largest width, input count and sheet.
 WIDTH, INPUTS, MOST_BYTES = 32, 8, 4608
 
@@ -124,7 +118,7 @@ cases, answers = [], []
 
 def add(name, data, texts, start=""):
     """Cases of one sheet. Its texts have to begin so, and so it is what its name says."""
-    (ROOT / "crates" / "program_cases" / "data" / f"{name}.sheet").write_bytes(data)
+    (ROOT / "crates" / "cases" / "data" / f"{name}.sheet").write_bytes(data)
     for text in texts:
         assert TEXTS[text](data).startswith(start), name
         cases.append(f"{text} {name}.sheet\n")
@@ -161,11 +155,10 @@ def refused_sheets():
         add(name, data, ("report", "clauses"), f"refused {refusal}\n")
 
 
-if __name__ == "__main__":
+def texts():
+    """The lines of all cases, and their answers; on the way the sheets of the two programs and of the cases are written."""
     assert report_text(EXAMPLE) == EXAMPLE_REPORT and clauses_text(EXAMPLE) == EXAMPLE_CLAUSES
     own_sheets()
     accepted_sheets()
     refused_sheets()
-    given = "".join(cases).encode()
-    assert len(given) <= MOST_CASES
-    write("program_cases", given, "".join(answers))
+    return cases, answers

@@ -1,11 +1,7 @@
-"""The cases of line reports that the program crates/report_cases runs.
-
-    python3 tools/report_cases.py
-
-writes crates/report_cases/stdin, the cases, and crates/report_cases/stdout, the answers that the program has to give. Both
-come from this file and from oracle/trail.py, an independent reading of document 01, alone: nothing that the program prints
-goes into either of them. A differential's report is held here, too, against a count over all operand values; only at 32
-bits the count is the oracle's, by carry pairs, and the program's is the one that tries every word.
+"""The cases of line reports that crates/report_cases runs, and the answers that it has to give. Both come from this file and
+from oracle/trail.py, an independent reading of document 01, alone. A differential's report is held here, too, against a count
+over all operand values; only at 32 bits the count is the oracle's, by carry pairs, and the program's is the one that tries
+every word.
 
 A case is a line `NAME: NUMBERS`, by the name's first word one of
 - `every`: KIND WIDTH, all differentials of a kind and a width, in the order of the part that the kind names (the second
@@ -18,23 +14,13 @@ A case is a line `NAME: NUMBERS`, by the name's first word one of
   one byte short, just right, and five bytes longer than is needed. The buffer's bytes are A5 before.
 """
 from collections import Counter
-from pathlib import Path
 
 from oracle.trail import (NAMES, Line, Refused, Sheet, apply, count6, line_report, read, report_bytes, rotl, seal_bytes,
                           totals)
-from sheet_cases import AMOUNT_KINDS, BLOCK, CONSTANT_KINDS, MOST_TEXT, TWO_WORD_KINDS, case_line, put, put_field
-
-CRATE = Path(__file__).resolve().parent.parent / "crates" / "report_cases"
+from sheet_cases import AMOUNT_KINDS, BLOCK, CONSTANT_KINDS, TWO_WORD_KINDS, case_line, put, put_field
 
 # The program's two texts, line by line.
 cases, answers = [], []
-
-
-def write(name, lines):
-    text = "".join(lines)
-    assert len(text) <= MOST_TEXT, (name, len(text))
-    (CRATE / name).write_text(text)
-    print(f"{name}: {len(lines)} cases, {len(text)} bytes")
 
 
 # One differential
@@ -260,8 +246,8 @@ def refused_sheets():
     add_unsealed("of one block", good[:BLOCK], "1 0")
 
 
-if __name__ == "__main__":
+def texts():
+    """The lines of all cases, and of their answers."""
     for group in (all_differentials, starred, misreadings, example_1, table_15, long_quiet, whole_sheets, refused_sheets):
         group()
-    write("stdin", cases)
-    write("stdout", answers)
+    return cases, answers

@@ -1,22 +1,14 @@
-"""The cases of reading and sealing that the program crates/sheet_cases runs.
-
-    python3 tools/sheet_cases.py
-
-writes crates/sheet_cases/stdin, the cases, and crates/sheet_cases/stdout, the answers that the program has to give. Both
-come from this file and from oracle/trail.py, an independent reading of document 01, alone: nothing that the program prints
-goes into either of them.
+"""The cases of reading and sealing that crates/sheet_cases runs, and the answers that it has to give. Both come from this file
+and from oracle/trail.py, an independent reading of document 01, alone.
 
 A case is a line `NAME: LENGTH OFFSET=VALUE OFFSET=VALUE ..`, a sheet whose other bytes are 0. Its answer is a line
 `NAME: read ANSWER; seal ANSWER OFFSET=VALUE ..`, with `accepted BLOCKS WIDTH INPUTS LINES` or `refused NUMBER PLACE` as
 ANSWER, and at the end the bytes that sealing changes.
 """
-from pathlib import Path
-
 from oracle.trail import BLOCK, PER_BLOCK, RECORD, Line, Refused, Sheet, read, record_at, seal_bytes
 
-CRATE = Path(__file__).resolve().parent.parent / "crates" / "sheet_cases"
-# The program's buffers for text, and its longest sheet.
-MOST_TEXT, MOST_BYTES = 2**18, 2**16
+# The longest sheet of a case.
+MOST_BYTES = 2**16
 
 KINDS = range(1, 7)
 TWO_WORD_KINDS, CONSTANT_KINDS, AMOUNT_KINDS = (1, 5), (2, 6), (3, 4)
@@ -71,13 +63,6 @@ def answer_line(name, data):
     after = seal_bytes(data) if seal.startswith(" accepted") else data
     changes = listed((i, b) for i, b in enumerate(after) if b != data[i])
     return f"{name}: read{outcome(data, False)}; seal{seal}{changes}\n"
-
-
-def write(name, line_of):
-    text = "".join(line_of(*case) for case in cases.items())
-    assert len(text) <= MOST_TEXT, (name, len(text))
-    (CRATE / name).write_text(text)
-    print(f"{name}: {len(cases)} lines, {len(text)} bytes")
 
 
 # Sheets, and changes to their bytes
@@ -365,9 +350,9 @@ def two_lines():
             add_sealed(f"{name} in line 1, {other_name} in line 3", other(fault(sheet, 1), 3), a)
 
 
-if __name__ == "__main__":
+def texts():
+    """The lines of all cases, and of their answers."""
     for group in (whole_sheets, lengths, checks, header, line_counts, input_differences, kinds, operands, limits,
                   unused_fields, rest, two_questions, two_questions_of_a_line, two_lines):
         group()
-    write("stdin", case_line)
-    write("stdout", answer_line)
+    return [case_line(*case) for case in cases.items()], [answer_line(*case) for case in cases.items()]

@@ -14,13 +14,13 @@ use Rattle.buffers.proofs.Overwrite.{take-overwrite}
 use Rattle.trail.specs.Trail.{lineCount}
 use Rattle.clause_lists.specs.Lists.{lineList, joined}
 use Rattle.sheet.specs.Asking.{allYes}
-use Rattle.answers.specs.Calls.{writing}
 use Rattle.sheet.specs.Fields.{headerOf, trailOf}
 use Rattle.sheet.specs.Questions.{questions, lineNumberQuestions, roomQuestions}
 use Rattle.sheet.specs.Questions.{IsAccepted}
 use Rattle.sheet.specs.declared.Mode.the-variants.{Read}
 use Rattle.sheet.proofs.Asking.{yes-both, yes-one, verdict-yes}
 use Rattle.sheet.proofs.TrailParts.{trail-lines}
+use Rattle.answers.specs.Calls.{writing}
 use Rattle.clauses.specs.Answers.{listAsks, listCall}
 use Rattle.clauses.specs.Demand3.{writtenAs, written, joinedList, LongEnough}
 

@@ -5,10 +5,10 @@ use lib.ListN.{length}
 use lib.IntN.{ℤ}
 use Rattle.sheet.specs.Asking.{Question, Verdict}
 use Rattle.sheet.specs.Asking.Verdict.{accepted, refused}
-use Rattle.answers.specs.Calls.{Call, writing}
 use Rattle.sheet.specs.Fields.{headerOf, trailOf}
 use Rattle.sheet.specs.Questions.{questions, lineNumberQuestions, roomQuestions}
 use Rattle.sheet.specs.declared.Mode.the-variants.{Read}
+use Rattle.answers.specs.Calls.{Call, writing}
 use Rattle.clause_lists.specs.Lists.{lineList}
 use Rattle.clause_sizes.specs.Counts.{countsOf}
 use Rattle.clause_sizes.specs.declared.Counts.{Counts}

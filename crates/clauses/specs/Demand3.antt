@@ -16,8 +16,8 @@ use Rattle.sheet.specs.Asking.{Verdict}
 use Rattle.sheet.specs.Asking.Verdict.{accepted, refused}
 use Rattle.sheet.specs.Fields.{trailOf}
 use Rattle.sheet.specs.Questions.{IsAccepted}
-use Rattle.sheet_reports.specs.Lines.{lineReport}
 use Rattle.answers.specs.Calls.{Call}
+use Rattle.sheet_reports.specs.Lines.{lineReport}
 use Rattle.clauses.specs.Answers.{listCall}
 
 -- what a call wrote: as many numbers from the buffer's start as its answer says

@@ -6,10 +6,10 @@ use mathlib.Core.Bool.{true, false}
 use mathlib.Core.List.{List, _∷_, _++_}
 use Rattle.sheet.specs.Asking.{Question, ask, allYes, verdict}
 use Rattle.sheet.specs.Asking.Verdict.{accepted, refused}
-use Rattle.answers.specs.Calls.{writing}
 use Rattle.sheet.specs.Fields.{headerOf}
 use Rattle.sheet.specs.Questions.{questions}
 use Rattle.sheet.specs.declared.Mode.the-variants.{Seal}
+use Rattle.answers.specs.Calls.{writing}
 use Rattle.sealing.specs.Sealing.{sealed}
 use Rattle.sealing.specs.Demands.{SealingIsRight}
 use Rattle.sheet_reports.specs.Demand2.{SheetReportsAreRight}

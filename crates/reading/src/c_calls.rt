@@ -3,8 +3,8 @@ ghost use mathlib.Core.Path.{_≡_};
 ghost use Rattle.sheet.specs.Asking.{verdict};
 ghost use Rattle.sheet.specs.Fields.{headerOf};
 ghost use Rattle.sheet.specs.Questions.{questions};
-ghost use Rattle.answers.specs.Answers.{answerOf};
 ghost use Rattle.sheet.specs.declared.Mode.the-variants.{Read};
+ghost use Rattle.answers.specs.Answers.{answerOf};
 use answers::Answer;
 use answers::Reading;
 

@@ -4,10 +4,10 @@ use mathlib.Core.List.{List, [], _∷_, _++_}
 use lib.ListN.{length}
 use Rattle.sheet.specs.Asking.{Question, Verdict}
 use Rattle.sheet.specs.Asking.Verdict.{accepted, refused}
-use Rattle.answers.specs.Calls.{Call, writing}
 use Rattle.sheet.specs.Fields.{headerOf, trailOf}
 use Rattle.sheet.specs.Questions.{questions, lineNumberQuestions, roomQuestions}
 use Rattle.sheet.specs.declared.Mode.the-variants.{Read}
+use Rattle.answers.specs.Calls.{Call, writing}
 use Rattle.differential.specs.Report.{Report, reportMeans}
 use Rattle.sheet_reports.specs.Totals.{Sums, sumsOf, sheetTotals}
 use Rattle.sheet_reports.specs.Lines.{lineReport}

@@ -8,14 +8,14 @@ use Rattle.trail.specs.Runs.{isStart}
 use Rattle.sheet.specs.Asking.{verdict}
 use Rattle.sheet.specs.Fields.{headerOf, trailOf}
 use Rattle.sheet.specs.Questions.{questions}
-use Rattle.answers.specs.Answers.{readingMeans}
 use Rattle.sheet.specs.Facts.{Limited}
 use Rattle.sheet.specs.declared.Header.{Header}
 use Rattle.sheet.specs.declared.Mode.the-variants.{Read}
+use Rattle.sheet.proofs.Testing.{denied, granted}
+use Rattle.answers.specs.Answers.{readingMeans}
 use Rattle.answers.specs.declared.Reading.{Reading}
 use Rattle.answers.specs.declared.Reading.the-variants.{Accepted}
 use Rattle.answers.proofs.Calling.{was-read, calling}
-use Rattle.sheet.proofs.Testing.{denied, granted}
 
 module _ (s : List ℕ) (r : Reading) (read : readingMeans r ≡ verdict (questions Read s) (headerOf s)) (h : Header) (accepts : r ≡ Accepted h) where
   pub limited : Limited h

@@ -4,10 +4,10 @@ use mathlib.Core.List.{List, [], _∷_, _++_}
 use lib.ListN.{length}
 use Rattle.sheet.specs.Asking.{Question, Verdict}
 use Rattle.sheet.specs.Asking.Verdict.{accepted, refused}
-use Rattle.answers.specs.Calls.{Call, writing}
 use Rattle.sheet.specs.Fields.{trailOf}
 use Rattle.sheet.specs.Questions.{questions, roomQuestions, startQuestions}
 use Rattle.sheet.specs.declared.Mode.the-variants.{Read}
+use Rattle.answers.specs.Calls.{Call, writing}
 use Rattle.sheet_runs.specs.Outcome.{Outcome, outcome, outcomeMeans}
 use Rattle.sheet_runs.specs.Outcome.Outcome.{followed, disagree}
 use Rattle.runs.specs.declared.RunsAnswer.{RunsAnswer}

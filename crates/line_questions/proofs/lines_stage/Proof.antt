@@ -7,8 +7,8 @@ use borrow.Author.Needs.{needs}
 use Rattle.words.specs.Below.{concat}
 use Rattle.sheet.specs.Asking.{allYes}
 use Rattle.sheet.specs.Questions.{lineQuestions}
-use Rattle.answers.proofs.Answering.{turn, asked, hands-on}
 use Rattle.sheet.proofs.Asking.{yes-next}
+use Rattle.answers.proofs.Answering.{turn, asked, hands-on}
 use Rattle.line_questions.proofs.lines_stage.Tie as tie
 use Rattle.line_questions.proofs.lines_stage.Statement.{statement}
 

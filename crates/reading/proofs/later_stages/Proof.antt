@@ -2,9 +2,9 @@
 use mathlib.Core.Path.{sym, _∙_}
 use borrow.Author.Needs.{needs}
 use Rattle.sheet.specs.Questions.{laterQuestions}
-use Rattle.answers.proofs.Answering.{asked, hand-on}
 use Rattle.sheet.proofs.Asking.{go-on}
 use Rattle.sheet.proofs.Settled.{limited}
+use Rattle.answers.proofs.Answering.{asked, hand-on}
 use Rattle.reading.proofs.later_stages.Tie as tie
 use Rattle.reading.proofs.later_stages.Statement.{statement}
 

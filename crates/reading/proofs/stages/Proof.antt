@@ -4,9 +4,9 @@ use lib.ListN.{length}
 use borrow.Author.Needs.{needs}
 use Rattle.sheet.specs.Questions.{questions}
 use Rattle.sheet.specs.Facts.{Whole}
-use Rattle.answers.proofs.Answering.{asked, hand-on}
 use Rattle.sheet.proofs.Asking.{go-on}
 use Rattle.sheet.proofs.Settled.{whole}
+use Rattle.answers.proofs.Answering.{asked, hand-on}
 use Rattle.reading.proofs.stages.Tie as tie
 use Rattle.reading.proofs.stages.Statement.{statement}
 

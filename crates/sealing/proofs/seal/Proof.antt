@@ -2,14 +2,14 @@
 use mathlib.Core.Path.{sym, ap, _∙_, subst}
 use borrow.Author.Needs.{needs}
 use Rattle.sheet.specs.Questions.{questions}
-use Rattle.answers.specs.Answers.{readingMeans}
 use Rattle.sealing.specs.Sealing.{withChecks}
 use Rattle.sheet.specs.Facts.{Whole}
-use Rattle.answers.proofs.Answering.{asked}
 use Rattle.sheet.proofs.Asking.{yes-left, no-verdict}
 use Rattle.sealing.proofs.WrittenChecks.{sealed-yes, sealed-no}
 use Rattle.sheet.proofs.Settled.{whole}
 use Rattle.sheet.specs.declared.Header.{Header}
+use Rattle.answers.specs.Answers.{readingMeans}
+use Rattle.answers.proofs.Answering.{asked}
 use Rattle.sealing.proofs.seal.Tie as tie
 use Rattle.sealing.proofs.seal.Statement.{statement}
 

@@ -7,11 +7,11 @@ use Rattle.words.specs.Below.{concat}
 use Rattle.sheet.specs.Asking.{verdict}
 use Rattle.sheet.specs.Asking.Verdict.{accepted}
 use Rattle.sheet.specs.Questions.{checkQuestion, checkQuestions}
-use Rattle.answers.specs.Answers.{readingMeans}
 use Rattle.sheet.specs.declared.Header.{Header}
-use Rattle.answers.specs.declared.Reading.{Reading}
 use Rattle.sheet.specs.declared.Mode.{Mode}
 use Rattle.sheet.specs.declared.Mode.the-variants.{Read, Seal}
+use Rattle.answers.specs.Answers.{readingMeans}
+use Rattle.answers.specs.declared.Reading.{Reading}
 use Rattle.block_questions.proofs.checks.check_stage.Tie as tie
 use Rattle.block_questions.proofs.checks.check_stage.Statement.{statement}
 

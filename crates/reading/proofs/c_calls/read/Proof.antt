@@ -1,8 +1,8 @@
 -- The answer of `read`, as a struct.
 use borrow.Author.Needs.{needs}
 use mathlib.Core.Path.{sym, ap, _∙_}
-use Rattle.answers.specs.Answers.{readingMeans}
 use Rattle.sheet.specs.declared.Header.{Header}
+use Rattle.answers.specs.Answers.{readingMeans}
 use Rattle.answers.proofs.Calling.{c-given, c-refused}
 use Rattle.reading.proofs.c_calls.read.Statement.{statement}
 use Rattle.reading.proofs.c_calls.read.Tie as tie

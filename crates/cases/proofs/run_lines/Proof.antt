@@ -2,14 +2,14 @@
 use Prim.Native.Nat.{_≤_, _-_}
 use lib.ListN.{length}
 use borrow.Author.Needs.{needs}
-use Rattle.sheet_cases.proofs.run_cases.Statement.{statement}
-use Rattle.sheet_cases.proofs.run_cases.Tie as tie
+use Rattle.cases.proofs.run_lines.Statement.{statement}
+use Rattle.cases.proofs.run_lines.Tie as tie
 
 abbrev Inv-loop : tie.InvT-loop
-Inv-loop input from₀ from = 0 ≤ from
+Inv-loop input subject₀ from₀ subject from = 0 ≤ from
 
 abbrev μ-loop : tie.MeasureT-loop
-μ-loop input from₀ from = length input - from
+μ-loop input subject₀ from₀ subject from = length input - from
 
 loop-holds : tie.Need-loop-holds Inv-loop μ-loop
 loop-holds c = search needs
@@ -17,17 +17,17 @@ loop-holds c = search needs
 find-requires : tie.Need-find-requires Inv-loop μ-loop
 find-requires c κs = search needs
 
-sub-run-case : tie.Need-sub-run-case Inv-loop μ-loop
-sub-run-case c = search needs
+sub-run-line : tie.Need-sub-run-line Inv-loop μ-loop
+sub-run-line c = search needs
 
-part-run-case-start : tie.Need-part-run-case-start Inv-loop μ-loop
-part-run-case-start c = search needs
+part-run-line-start : tie.Need-part-run-line-start Inv-loop μ-loop
+part-run-line-start c = search needs
 
-part-run-case-end : tie.Need-part-run-case-end Inv-loop μ-loop
-part-run-case-end c = search needs
+part-run-line-end : tie.Need-part-run-line-end Inv-loop μ-loop
+part-run-line-end c = search needs
 
-run-case-requires : tie.Need-run-case-requires Inv-loop μ-loop
-run-case-requires c κs = search needs
+run-line-requires : tie.Need-run-line-requires Inv-loop μ-loop
+run-line-requires c κs = search needs
 
 add-from : tie.Need-add-from Inv-loop μ-loop
 add-from c = search needs
@@ -41,18 +41,18 @@ loop-again c = search needs
 returns : tie.Need-returns Inv-loop μ-loop
 returns c = search needs
 
-pub run-cases-spec : {M : Type 1} → statement M
-run-cases-spec =
+pub run-lines-spec : {M : Type 1} → statement M
+run-lines-spec =
     tie.close
     (tie.spec
     Inv-loop
     μ-loop
     loop-holds
     find-requires
-    sub-run-case
-    part-run-case-start
-    part-run-case-end
-    run-case-requires
+    sub-run-line
+    part-run-line-start
+    part-run-line-end
+    run-line-requires
     add-from
     loop-less
     loop-again

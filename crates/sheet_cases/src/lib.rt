@@ -1,6 +1,6 @@
-// Runs cases of reading and sealing on `reading::read` and `sealing::seal`, and prints what comes back.
+// Cases of reading and sealing, run on `reading::read` and `sealing::seal`.
 //
-// A case is a line of standard input, `NAME: LENGTH OFFSET=VALUE OFFSET=VALUE ..`: a sheet of LENGTH bytes, at most 65,536,
+// A case is a line `NAME: LENGTH OFFSET=VALUE OFFSET=VALUE ..`: a sheet of LENGTH bytes, at most 65,536,
 // all 0 but those listed. It is answered by a line, `NAME: read ANSWER; seal ANSWER OFFSET=VALUE ..`, that ends with the
 // bytes that sealing changed.
 mod print;
@@ -12,31 +12,12 @@ use crate::print::print_changes;
 use case_text::parse::find;
 use case_text::parse::take_sheet;
 use case_text::print::print;
-use libc::STDIN_FILENO;
 
-// Room for all cases.
-const CASES_BYTES: usize = 262144;
 // The longest sheet of a case.
 const SHEET_BYTES: usize = 65536;
 
-fn main() {
-    let mut input = [0u8; CASES_BYTES];
-    let n = io::read_full(STDIN_FILENO, &mut input);
-    run_cases(&input[..n]);
-}
-
-// Answers every line of the input.
-fn run_cases(input: &[u8]) {
-    let mut from = 0;
-    while from < input.len() {
-        let end = find(input, from, b'\n');
-        run_case(&input[from..end]);
-        from = end + 1;
-    }
-}
-
 // Answers one line: its name, and what its sheet comes to.
-fn run_case(line: &[u8]) {
+pub fn run_case(line: &[u8]) {
     let colon = find(line, 0, b':');
     print(&line[0..colon]);
     let mut sheet = [0u8; SHEET_BYTES];

@@ -1,7 +1,7 @@
-// Runs cases of two runs and of clause lists on `runs::two_runs`, `clauses::clause_counts` and `clauses::line_list`, and counts
-// what follows and what satisfies over all there is.
+// Cases of two runs and of clause lists, run on `runs::two_runs`, `clauses::clause_counts` and `clauses::line_list`. What
+// follows and what satisfies is counted over all there is.
 //
-// A case is a line of standard input, `NAME: NUMBERS`, where a sheet is given as `LENGTH OFFSET=VALUE ..`: LENGTH bytes, all 0
+// A case is a line `NAME: NUMBERS`, where a sheet is given as `LENGTH OFFSET=VALUE ..`: LENGTH bytes, all 0
 // but those listed. Its name's first letter says what it is:
 // - `list ..: K SHEET`, the list of line K, in buffers of three lengths;
 // - `pairs ..: SHEET`, the satisfying assignments and the starting values that follow;
@@ -21,31 +21,12 @@ use crate::starts::run_start;
 use crate::whole::run_whole;
 use case_text::parse::find;
 use case_text::print::print;
-use libc::STDIN_FILENO;
 
-// Room for all cases.
-const CASES_BYTES: usize = 131072;
 // Room for the sheet of a case: one block more than any sheet has.
 const SHEET_BYTES: usize = 5120;
 
-fn main() {
-    let mut input = [0u8; CASES_BYTES];
-    let n = io::read_full(STDIN_FILENO, &mut input);
-    run_cases(&input[..n]);
-}
-
-// Answers every line of the input.
-fn run_cases(input: &[u8]) {
-    let mut from = 0;
-    while from < input.len() {
-        let end = find(input, from, b'\n');
-        run_case(&input[from..end]);
-        from = end + 1;
-    }
-}
-
 // Answers one line: its name, and what it comes to.
-fn run_case(line: &[u8]) {
+pub fn run_case(line: &[u8]) {
     let colon = find(line, 0, b':');
     print(&line[0..colon]);
     print(b":");
