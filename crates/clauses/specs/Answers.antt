@@ -1,6 +1,6 @@
 -- What the answers of the calls on clauses mean, and what these calls come to (document 01, "Clauses").
 use Prim.Native.Nat.{ℕ}
-use mathlib.Core.List.{List, [], _∷_, _++_}
+use mathlib.Core.List.{List, _++_}
 use lib.ListN.{length}
 use lib.IntN.{ℤ}
 use Rattle.sheet.specs.Asking.{Question, Verdict}
@@ -10,7 +10,6 @@ use Rattle.sheet.specs.Questions.{questions, lineNumberQuestions, roomQuestions
 use Rattle.sheet.specs.declared.Mode.the-variants.{Read}
 use Rattle.answers.specs.Calls.{Call, writing}
 use Rattle.clause_lists.specs.Lists.{lineList}
-use Rattle.clause_sizes.specs.Counts.{countsOf}
 use Rattle.clause_sizes.specs.declared.Counts.{Counts}
 use Rattle.clauses.specs.declared.CountsAnswer.{CountsAnswer}
 use Rattle.clauses.specs.declared.CountsAnswer.the-variants as counts
@@ -36,12 +35,3 @@ listAsks s k out =
 -- Another writes one line's list as signed 32-bit numbers: what it answers, and the lent buffer afterwards.
 abbrev pub listCall : List ℕ → ℕ → List ℤ → Call ℤ
 listCall s k out = writing (listAsks s k out) (lineList (trailOf s) k) out
-
--- ---- both counts as C takes them
-
-abbrev pub countsNumbers : Counts → List ℕ
-countsNumbers c = c .variables ∷ c .clauses ∷ []
-
--- 18 for two numbers
-abbrev pub countsCall : List ℕ → List ℕ → Call ℕ
-countsCall s out = writing (questions Read s ++ roomQuestions 2 (length out)) (countsNumbers (countsOf (trailOf s))) out

@@ -1,6 +1,4 @@
 // A sheet's clauses for a SAT solver (document 01). The calls that users make are `clause_counts` and `line_list`.
-pub mod c_calls;
-
 ghost use mathlib.Core.Path.{_≡_};
 ghost use Rattle.sheet.specs.Asking.{verdict};
 ghost use Rattle.sheet.specs.Fields.{trailOf};

@@ -1,6 +1,4 @@
 // Reading a sheet: all questions in their order. The call that users make is `read`.
-pub mod c_calls;
-
 ghost use mathlib.Core.Path.{_≡_};
 ghost use Rattle.sheet.specs.Asking.{verdict};
 ghost use Rattle.sheet.specs.Fields.{headerOf};

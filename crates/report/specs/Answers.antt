@@ -1,6 +1,6 @@
 -- What the answers of the calls on reports mean: document 01's number and place for a refusal, the values asked for else.
 use Prim.Native.Nat.{ℕ}
-use mathlib.Core.List.{List, [], _∷_, _++_}
+use mathlib.Core.List.{List, _++_}
 use lib.ListN.{length}
 use Rattle.sheet.specs.Asking.{Question, Verdict}
 use Rattle.sheet.specs.Asking.Verdict.{accepted, refused}
@@ -9,9 +9,8 @@ use Rattle.sheet.specs.Questions.{questions, lineNumberQuestions, roomQuestions
 use Rattle.sheet.specs.declared.Mode.the-variants.{Read}
 use Rattle.answers.specs.Calls.{Call, writing}
 use Rattle.differential.specs.Report.{Report, reportMeans}
-use Rattle.sheet_reports.specs.Totals.{Sums, sumsOf, sheetTotals}
-use Rattle.sheet_reports.specs.Lines.{lineReport}
-use Rattle.report_buffer.specs.Buffer.{reportSize, reportBytes, sheetBytes}
+use Rattle.sheet_reports.specs.Totals.{Sums, sumsOf}
+use Rattle.report_buffer.specs.Buffer.{sheetBytes}
 use Rattle.report.specs.declared.LineAnswer.{LineAnswer}
 use Rattle.report.specs.declared.LineAnswer.the-variants as line
 use Rattle.report.specs.declared.TotalsAnswer.{TotalsAnswer}
@@ -42,20 +41,3 @@ lineAsks s k = questions Read s ++ lineNumberQuestions (headerOf s) k
 abbrev pub reportsCall : List ℕ → List ℕ → Call ℕ
 reportsCall s out =
     writing (questions Read s ++ roomQuestions (length (sheetBytes (trailOf s))) (length out)) (sheetBytes (trailOf s)) out
-
--- one line's bytes of it: 17, then 18 for them
-abbrev pub lineReportCall : List ℕ → ℕ → List ℕ → Call ℕ
-lineReportCall s k out =
-    writing (questions Read s ++ (lineNumberQuestions (headerOf s) k ++ roomQuestions reportSize (length out)))
-    (reportBytes (lineReport (trailOf s) k)) out
-
--- ---- the totals as C takes them
-
--- impossible lines; the sum of the others' weights in sixteenths; chains
-abbrev pub totalsNumbers : Sums → List ℕ
-totalsNumbers t = t .impossible ∷ t .weight ∷ t .chains ∷ []
-
--- 18 for three numbers
-abbrev pub totalsCall : List ℕ → List ℕ → Call ℕ
-totalsCall s out =
-    writing (questions Read s ++ roomQuestions 3 (length out)) (totalsNumbers (sheetTotals (trailOf s))) out

@@ -1,6 +1,4 @@
 // The call on a sheet's two runs (document 01, "Two runs"): `two_runs`.
-pub mod c_calls;
-
 ghost use mathlib.Core.Path.{_≡_};
 ghost use Rattle.sheet.specs.Asking.{verdict};
 ghost use Rattle.sheet.specs.Fields.{trailOf};

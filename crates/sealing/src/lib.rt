@@ -1,6 +1,4 @@
 // Sealing a sheet: it is given its checks. The call that users make is `seal`.
-pub mod c_calls;
-
 ghost use mathlib.Core.Path.{_≡_};
 ghost use Prim.Native.Nat.{_*_, _≤_};
 ghost use lib.ListN.{length};

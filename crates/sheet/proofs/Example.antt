@@ -1,35 +1,19 @@
--- Sheets by computation. No theorem about accepted sheets is empty: document 01's example is one. Sheets with one byte wrong are
--- refused with their number and place.
+-- Sheets by computation: with one byte wrong they are refused with their number and place.
 use mathlib.Core.Path.{_≡_, refl}
 use mathlib.Core.List.{List, [], _∷_, _++_, map}
 use Prim.Native.Nat.{ℕ}
 use lib.ListN.{set, replicate}
-use Rattle.sheet.specs.Fields.{formOf, headerOf, trailOf, recordOf, recordPosition}
-use Rattle.sheet.specs.Questions.{IsAccepted}
-use Rattle.sheet.specs.Example.{exampleSheet}
-use Rattle.sheet.specs.Asking.{Question, Verdict, allYes, verdict}
-use Rattle.sheet.specs.Asking.Verdict.{accepted, refused}
-use Rattle.sheet.specs.Checks.{checkOf}
-use Rattle.sheet.specs.Questions.{within, zeroBytes, lengthQuestions, checkQuestion, checkQuestions, marked, linesRight, inputRight, headerQuestions, operandsEarlier, operandsDiffer, amountRight, constantRight, unusedZero, recordQuestions, lineQuestions, recordRest, blockRest, restQuestion, laterQuestions, questions, lineNumberQuestions, roomQuestions, startQuestions}
-use Rattle.sheet.specs.declared.Header.{Header}
-use Rattle.sheet.specs.declared.Mode.the-variants.{Seal}
 use Rattle.words.specs.Below.{all, total, tabulate, concat}
 use Rattle.buffers.specs.LittleEndian.{numberAt}
 use Rattle.trail.specs.Kinds.{kindOf}
 use Rattle.trail.specs.Runs.{isStart}
-
-pub example-accepted : IsAccepted exampleSheet
-unfolding exampleSheet allYes checkOf within zeroBytes lengthQuestions checkQuestion checkQuestions marked linesRight inputRight headerQuestions operandsEarlier operandsDiffer amountRight constantRight unusedZero recordQuestions lineQuestions recordRest blockRest restQuestion laterQuestions questions all total concat numberAt kindOf formOf recordOf recordPosition
-example-accepted = refl
-
--- n is 2, the one input difference 1; line 0 adds the constant 1 to word 0 and states the difference 3
-pub example-trail : trailOf exampleSheet ≡ record {
-  width = 2;
-  inputs = 1 ∷ [];
-  lines = record { kind = 6; amount = 0; first = 0; second = 0; constant = 1; difference = 3 } ∷ [];
-}
-unfolding exampleSheet trailOf tabulate numberAt formOf recordOf recordPosition
-example-trail = refl
+use Rattle.sheet.specs.Asking.{Question, Verdict, verdict}
+use Rattle.sheet.specs.Asking.Verdict.{accepted, refused}
+use Rattle.sheet.specs.Fields.{formOf, headerOf, trailOf, recordOf, recordPosition}
+use Rattle.sheet.specs.Checks.{checkOf}
+use Rattle.sheet.specs.Questions.{within, zeroBytes, lengthQuestions, checkQuestions, marked, linesRight, inputRight, headerQuestions, operandsEarlier, operandsDiffer, amountRight, constantRight, unusedZero, recordQuestions, lineQuestions, recordRest, blockRest, restQuestion, laterQuestions, questions, lineNumberQuestions, roomQuestions, startQuestions}
+use Rattle.sheet.specs.declared.Header.{Header}
+use Rattle.sheet.specs.declared.Mode.the-variants.{Seal}
 
 -- ---- one byte of a sheet set, and what is refused then
 
@@ -79,22 +63,29 @@ pub refusals : map (λ (c : Case). answer (set twoLines (c .position) (c .byte))
 unfolding twoLines verdict within zeroBytes lengthQuestions checkQuestions marked linesRight inputRight headerQuestions operandsEarlier operandsDiffer amountRight constantRight unusedZero recordQuestions lineQuestions recordRest blockRest restQuestion laterQuestions questions all concat numberAt kindOf formOf recordOf recordPosition
 refusals = refl
 
+-- ---- checks
+
+-- the check of a block without bytes, which read as zeros, is its index
+pub check-of-zeros : checkOf [] 7 ≡ 7
+unfolding checkOf total numberAt
+check-of-zeros = refl
+
 -- ---- the calls' own questions
 
 -- the verdict of questions that stand alone
 abbrev pub alone : List Question → Verdict ℕ
 alone own = verdict own 0
 
--- Document 01's example has one line, and words of two bits. Room for 16 is enough for 16.
+-- The two lines are line 0 and line 1, and words have two bits. Room for 16 is enough for 16.
 pub own-refusals : map alone (
-    lineNumberQuestions (headerOf exampleSheet) 0
-    ∷ lineNumberQuestions (headerOf exampleSheet) 1
+    lineNumberQuestions (headerOf twoLines) 1
+    ∷ lineNumberQuestions (headerOf twoLines) 2
     ∷ roomQuestions 16 16
     ∷ roomQuestions 16 15
-    ∷ startQuestions (trailOf exampleSheet) (3 ∷ [])
-    ∷ startQuestions (trailOf exampleSheet) (4 ∷ [])
+    ∷ startQuestions (trailOf twoLines) (3 ∷ [])
+    ∷ startQuestions (trailOf twoLines) (4 ∷ [])
     ∷ []
     )
     ≡ accepted 0 ∷ refused 17 0 ∷ accepted 0 ∷ refused 18 0 ∷ accepted 0 ∷ refused 19 0 ∷ []
-unfolding exampleSheet verdict trailOf tabulate numberAt formOf recordOf recordPosition isStart all
+unfolding twoLines verdict trailOf tabulate numberAt formOf recordOf recordPosition isStart all
 own-refusals = refl

@@ -5,4 +5,3 @@ pub mod Fields
 pub mod Checks
 pub mod Questions
 pub mod Facts
-pub mod Example

@@ -1,4 +1,4 @@
-// The calls for C and for what links as C does: each is the call of the crate that has its subject, with the same contract, exported.
+// The calls for C and for what links as C does: each is a call of the crates whose names end in `_c`, with the same contract, exported.
 // A slice is lent as a pointer and a length. Every call answers with the same struct.
 ghost use mathlib.Core.Path.{_≡_};
 ghost use Rattle.sheet.specs.Asking.{verdict};
@@ -7,18 +7,20 @@ ghost use Rattle.sheet.specs.Questions.{questions};
 ghost use Rattle.sheet.specs.declared.Mode.the-variants.{Read, Seal};
 ghost use Rattle.answers.specs.Answers.{answerOf};
 ghost use Rattle.sealing.specs.Sealing.{sealed};
-ghost use Rattle.report.specs.Answers.{totalsCall, lineReportCall, reportsCall};
-ghost use Rattle.runs.specs.Answers.{outcomeCall};
-ghost use Rattle.clauses.specs.Answers.{countsCall, listCall};
+ghost use Rattle.report.specs.Answers.{reportsCall};
+ghost use Rattle.report_c.specs.Calls.{lineReportCall, totalsCall};
+ghost use Rattle.runs_c.specs.Calls.{outcomeCall};
+ghost use Rattle.clauses.specs.Answers.{listCall};
+ghost use Rattle.clauses_c.specs.Calls.{countsCall};
 use answers::Answer;
-use clauses::c_calls::clause_counts;
-use clauses::c_calls::line_clauses;
-use reading::c_calls::read;
-use report::c_calls::line_report;
-use report::c_calls::reports;
-use report::c_calls::totals;
-use runs::c_calls::two_runs;
-use sealing::c_calls::seal;
+use clauses_c::clause_counts;
+use clauses_c::line_clauses;
+use reading_c::read;
+use report_c::line_report;
+use report_c::reports;
+use report_c::totals;
+use runs_c::two_runs;
+use sealing_c::seal;
 
 // Asks all questions of a sheet. Counts its lines.
 #[no_mangle]
