@@ -1,7 +1,7 @@
 // Arithmetic of n-bit words, for every width n from 1 to 64.
 ghost use mathlib.Core.Path.{_≡_};
 ghost use Prim.Native.Nat.{_-_, _^_, _≤_, _<_};
-ghost use Rattle.words.specs.Words.{bit as Words·bit, isWord, sumModulo, rotateLeft, rotateRight};
+ghost use Rattle.words.specs.Words.{bit as Words·bit, isWord, sumModulo, differenceModulo, rotateLeft, rotateRight, shiftLeft, shiftRight};
 
 // 2^n - 1: the largest word.
 pub fn mask(n: u32) -> u64
@@ -35,6 +35,14 @@ pub fn add(n: u32, x: u64, y: u64) -> u64
     std::num::wrapping_add_u64(x, y) & mask(n)
 }
 
+// The difference modulo 2^n.
+pub fn subtract(n: u32, x: u64, y: u64) -> u64
+    requires { ⌜ (1 ≤ n) × (n ≤ 64) ⌝ }
+    ensures { λ r. ⌜ r ≡ differenceModulo n x y ⌝ }
+{
+    std::num::wrapping_sub_u64(x, y) & mask(n)
+}
+
 // A word of n bits rotated left by r places.
 pub fn rotate_left(n: u32, r: u32, x: u64) -> u64
     requires { ⌜ (n ≤ 64) × (1 ≤ r) × (r < n) × (x < 2 ^ n) ⌝ }
@@ -49,4 +57,20 @@ pub fn rotate_right(n: u32, r: u32, x: u64) -> u64
     ensures { λ y. ⌜ y ≡ rotateRight n r x ⌝ }
 {
     rotate_left(n, n - r, x)
+}
+
+// A word of n bits shifted left by r places.
+pub fn shift_left(n: u32, r: u32, x: u64) -> u64
+    requires { ⌜ (n ≤ 64) × (r < n) ⌝ }
+    ensures { λ y. ⌜ y ≡ shiftLeft n r x ⌝ }
+{
+    (x << r) & mask(n)
+}
+
+// A word shifted right by r places.
+pub fn shift_right(r: u32, x: u64) -> u64
+    requires { ⌜ r < 64 ⌝ }
+    ensures { λ y. ⌜ y ≡ shiftRight r x ⌝ }
+{
+    x >> r
 }

@@ -20,3 +20,4 @@ pub mod WeightBound
 pub mod Weights
 pub mod WholeWords
 pub mod ReportKinds
+pub mod Turning

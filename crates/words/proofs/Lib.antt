@@ -9,3 +9,5 @@ pub mod LowBits
 pub mod Bijection
 pub mod Pairs
 pub mod Unequal
+pub mod Shifts
+pub mod Subtraction

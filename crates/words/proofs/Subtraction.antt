@@ -1,0 +1,107 @@
+-- Differences of words: the sum that turns one back, and that sum's carries, which are the difference's borrows.
+use mathlib.Core.Path.{_≡_, refl, sym, ap, _∙_}
+use mathlib.Core.Bool.{Bool, true, false}
+use Prim.Native.Nat.{ℕ, _+_, _-_, _*_, _/_, _%_, _^_, _≤_, _<_}
+use native.Mathlib.Nat.{mod-lt, mod-eq-of-lt, mod-eq-sub-mod, mod-add-mod, add-mod, add-mul-mod-self-right}
+use native.Mathlib.Omega.{arith}
+use borrow.Author.Tests.{leb-true, leb-false, lt-ltb, le-ltb}
+use lib.Dec.{leb, ltb}
+use lib.Pow.{mod-mod-pow, pow-pos, split}
+use Rattle.words.specs.Words.{sumModulo, differenceModulo, carryInto, borrowInto}
+
+pub differenceModulo-lt : (n x y : ℕ) → differenceModulo n x y < 2 ^ n
+unfolding differenceModulo
+differenceModulo-lt n x y = mod-lt (x + (2 ^ n - y % 2 ^ n)) (pow-pos n)
+
+-- the words that add up with y to x, modulo 2 ^ n, are just one
+pub difference-unique : (n x y z : ℕ) → z < 2 ^ n → (z + y) % 2 ^ n ≡ x % 2 ^ n → z ≡ differenceModulo n x y
+unfolding differenceModulo
+difference-unique n x y z hz e =
+    sym
+    (sym (mod-add-mod x p c)
+    ∙ ap (λ (w : ℕ). (w + c) % p) (sym e)
+    ∙ mod-add-mod (z + y) p c
+    ∙ ap (λ (w : ℕ). w % p) whole
+    ∙ add-mul-mod-self-right z (y / p + 1) p
+    ∙ mod-eq-of-lt hz)
+  where
+    p : ℕ
+    p = 2 ^ n
+
+    c : ℕ
+    c = p - y % p
+
+    whole : z + y + c ≡ z + (y / p + 1) * p
+    whole = omega (arith, split y n, mod-lt y (pow-pos n))
+
+-- a difference and its second word add up to the first
+pub difference-sum : (n x y : ℕ) → (differenceModulo n x y + y) % 2 ^ n ≡ x % 2 ^ n
+unfolding differenceModulo
+difference-sum n x y =
+    mod-add-mod (x + c) p y
+    ∙ ap (λ (w : ℕ). w % p) whole
+    ∙ add-mul-mod-self-right x (y / p + 1) p
+  where
+    p : ℕ
+    p = 2 ^ n
+
+    c : ℕ
+    c = p - y % p
+
+    whole : x + c + y ≡ x + (y / p + 1) * p
+    whole = omega (arith, split y n, mod-lt y (pow-pos n))
+
+pub difference-back : (n x y : ℕ) → x < 2 ^ n → sumModulo n (differenceModulo n x y) y ≡ x
+unfolding sumModulo
+difference-back n x y h = difference-sum n x y ∙ mod-eq-of-lt h
+
+pub sum-back : (n x y : ℕ) → x < 2 ^ n → differenceModulo n (sumModulo n x y) y ≡ x
+unfolding sumModulo
+sum-back n x y h = sym (difference-unique n ((x + y) % 2 ^ n) y x h (sym (mod-eq-of-lt (mod-lt (x + y) (pow-pos n)))))
+
+-- the low i bits, also of a number that has lost those from n on
+mod-lower : (n i z : ℕ) → i ≤ n → z % 2 ^ n % 2 ^ i ≡ z % 2 ^ i
+mod-lower n i z h = ap (λ (w : ℕ). z % 2 ^ w % 2 ^ i) (omega arith) ∙ mod-mod-pow z (n - i) i
+
+-- a difference that wrapped at w bits, cut at n
+pub difference-wrapped : (w n x y r : ℕ) → n ≤ w → (r + y) % 2 ^ w ≡ x → r % 2 ^ n ≡ differenceModulo n x y
+difference-wrapped w n x y r h e =
+    difference-unique n x y (r % 2 ^ n) (mod-lt r (pow-pos n))
+    (mod-add-mod r (2 ^ n) y ∙ sym (mod-lower w n (r + y) h) ∙ ap (λ (z : ℕ). z % 2 ^ n) e)
+
+-- the first word's low i bits are those of a sum of low bits
+low-difference : (n x y i : ℕ) → i ≤ n
+    → (differenceModulo n x y % 2 ^ i + y % 2 ^ i) % 2 ^ i ≡ x % 2 ^ i
+low-difference n x y i h =
+    sym (add-mod (differenceModulo n x y) y (2 ^ i))
+    ∙ sym (mod-lower n i (differenceModulo n x y + y) h)
+    ∙ ap (λ (w : ℕ). w % 2 ^ i) (difference-sum n x y)
+    ∙ mod-lower n i x h
+
+-- The borrow into bit i is the carry of the sum that turns the difference back: the low bits pass 2 ^ i just where the first word's
+-- are less than the second's.
+pub borrow-carry : (n x y i : ℕ) → i ≤ n → carryInto (differenceModulo n x y) y i ≡ borrowInto x y i
+unfolding carryInto borrowInto
+borrow-carry n x y i h = at (leb p (a + b)) refl
+  where
+    p : ℕ
+    p = 2 ^ i
+
+    a : ℕ
+    a = differenceModulo n x y % p
+
+    b : ℕ
+    b = y % p
+
+    low : (a + b) % p ≡ x % p
+    low = low-difference n x y i h
+
+    less : a < p
+    less = mod-lt (differenceModulo n x y) (pow-pos i)
+
+    at : (c : Bool) → leb p (a + b) ≡ c → c ≡ ltb (x % p) b
+    at true e = sym (lt-ltb (x % p) b (omega (arith, low, over, less, leb-true p (a + b) e)))
+      where
+        over : (a + b) % p ≡ a + b - p
+        over = mod-eq-sub-mod (leb-true p (a + b) e) ∙ mod-eq-of-lt (omega (arith, less, mod-lt y (pow-pos i)))
+    at false e = sym (le-ltb (x % p) b (omega (arith, low, mod-eq-of-lt (leb-false p (a + b) e))))
