@@ -1,12 +1,11 @@
 -- The three demands hold: the first by the laws of verdicts, the others by their own theorems.
 use Prim.Native.Nat.{ℕ}
 use native.Mathlib.Omega.{arith}
-use mathlib.Core.Path.{_≡_, refl, sym, ap, ap₂, _∙_}
-use mathlib.Core.Logic.{_↔_}
-use mathlib.Core.Bool.{Bool, true, false, _&&_, cond, and-eq-true-iff}
-use mathlib.Core.List.{List, [], _∷_, _++_}
+use mathlib.Core.Path.{_≡_, refl, ap, _∙_}
+use mathlib.Core.Bool.{Bool, true, false, cond, and-eq-true-iff}
+use mathlib.Core.List.{List, [], _∷_}
 use Rattle.buffers.specs.Overwrite.{overwrite}
-use Rattle.sheet.specs.Asking.{Question, ask, allYes, verdict}
+use Rattle.sheet.specs.Asking.{Question, allYes, verdict}
 use Rattle.sheet.specs.Asking.Verdict.{accepted, refused}
 use Rattle.sheet.specs.Fields.{headerOf}
 use Rattle.sheet.specs.Questions.{questions}
@@ -17,7 +16,7 @@ use Rattle.sealing.proofs.WrittenChecks.{sealed-no}
 use Rattle.sealing.proofs.Demand2.{sealing-is-right}
 use Rattle.sheet_reports.proofs.Demand2.{sheet-reports-are-right}
 use Rattle.clauses.proofs.Demand3.{every-sheet-pairs}
-use Rattle.demands.specs.Demands.{FirstNo, Demand1, Demands}
+use Rattle.demands.specs.Demands.{FirstNo, Demands}
 
 no-questions : allYes [] ≡ true
 unfolding allYes

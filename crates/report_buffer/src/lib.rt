@@ -1,5 +1,4 @@
 // The report buffer of a sheet that was read: the reports of all lines, 16 bytes each (document 01, "Line reports").
-ghost use mathlib.Core.Path.{_≡_};
 ghost use Prim.Native.Nat.{_+_, _≤_};
 ghost use lib.ListN.{length};
 ghost use Rattle.buffers.specs.Overwrite.{Wrote};

@@ -2,7 +2,7 @@
 use Prim.Native.Nat.{ℕ, _+_, _*_, _/_, _%_, _^_, _<_, _≤_}
 use native.Mathlib.Nat.{add-assoc}
 use native.Mathlib.Omega.{arith}
-use mathlib.Core.Path.{_≡_, refl, sym, ap, _∙_}
+use mathlib.Core.Path.{_≡_, sym, ap, _∙_}
 use mathlib.Core.List.{List}
 use lib.Dec.{eqb}
 use lib.ListN.{length}
@@ -12,11 +12,9 @@ use Rattle.buffers.proofs.LittleEndian.{number-cong}
 use Rattle.sheet.specs.Form.{wordBytes, recordBytes}
 use Rattle.sheet.specs.Blocks.{blockBytes, checkOffset}
 use Rattle.sheet.specs.Checks.{checkOf}
-use Rattle.sheet.specs.Fields.{formOf, headerOf, inputDifference, recordFrom}
+use Rattle.sheet.specs.Fields.{headerOf, inputDifference, recordFrom}
 use Rattle.sheet.specs.Questions.{zeroBytes, marked}
 use Rattle.sheet.specs.declared.Form.{Form}
-use Rattle.sheet.specs.declared.Header.{Header}
-use Rattle.sheet.specs.declared.Record.{Record}
 use Rattle.sheet.proofs.FormSizes.{sizes, same-form}
 
 -- the k bytes at a position are the same

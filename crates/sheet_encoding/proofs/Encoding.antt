@@ -1,12 +1,12 @@
 -- A trail's bytes say the trail: each piece stands where its field is read.
 use Prim.Native.Nat.{ℕ, zero, suc, _+_, _*_, _-_, _/_, _%_, _^_, _<_, _≤_}
-use native.Mathlib.Nat.{suc-mul, div-mul-le-self, add-zero, mod-lt, mod-eq-of-lt, div-add-mod, div-lt-iff-lt-mul, le-div-iff-mul-le, le-trans, lt-of-lt-of-le, pow-le-pow-right, mul-suc, mul-zero}
+use native.Mathlib.Nat.{suc-mul, div-mul-le-self, add-zero, mod-lt, mod-eq-of-lt, div-add-mod, le-div-iff-mul-le, le-trans, lt-of-lt-of-le, pow-le-pow-right, mul-suc, mul-zero}
 use native.Mathlib.Decide.{decLt}
 use native.Mathlib.Omega.{arith}
 use lib.Pow.{pow-pos}
 use mathlib.Core.Path.{_≡_, refl, sym, ap, ap₂, subst, _∙_}
 use mathlib.Core.Bool.{Bool, true, false}
-use mathlib.Core.List.{List, [], _∷_, _++_}
+use mathlib.Core.List.{List, [], _∷_}
 use lib.ListN.{length, getD, replicate, length-append, length-replicate}
 use lib.Seq.{ext-getD}
 use Rattle.words.specs.Below.{concat, tabulate}
@@ -17,17 +17,16 @@ use Rattle.buffers.proofs.Standing.{Stands, stands-whole, stands-at, stands-lef
 use Rattle.trail.specs.declared.Line.{Line}
 use Rattle.trail.specs.Kinds.{kindOf, usesSecond, usesAmount, usesConstant}
 use Rattle.trail.specs.Trail.{Trail, inputCount, lineCount, noLine, lineAt}
-use Rattle.trail.specs.WellFormed.{WellFormedLine, WellFormed, Sized}
+use Rattle.trail.specs.WellFormed.{WellFormed, Sized}
 use Rattle.trail.proofs.KindNumbers.{known-within}
 use Rattle.sheet.specs.Fields.{lineOf}
 use Rattle.sheet.specs.declared.Record.{Record}
 use Rattle.sheet.specs.Form.{markOf, wordBytes, widthMost, recordBytes, recordsInBlock, inputsEnd}
 use Rattle.sheet.specs.Blocks.{blockBytes}
 use Rattle.sheet.specs.Questions.{lineBlocks}
-use Rattle.sheet.specs.Fields.{formOf, headerOf, inputDifference, recordFrom, recordPosition, recordOf, trailOf}
+use Rattle.sheet.specs.Fields.{formOf, inputDifference, recordFrom, recordPosition, recordOf, trailOf}
 use Rattle.sheet.proofs.FormSizes.{sizes}
 use Rattle.sheet.specs.declared.Form.{Form}
-use Rattle.sheet.specs.declared.Header.{Header}
 use Rattle.sheet_encoding.specs.Encoding.{recordBytesOf, headerBlock, lineBlock, encode}
 use Rattle.sheet_encoding.proofs.FormLaws.{mark-long, mark-told, words-hold}
 

@@ -3,7 +3,7 @@ use Prim.Native.Nat.{ℕ, _*_, _^_, _≤_}
 use native.Mathlib.Omega.{arith}
 use mathlib.Core.Path.{_≡_, refl}
 use mathlib.Core.Bool.{true}
-use mathlib.Core.List.{List, [], _∷_}
+use mathlib.Core.List.{List}
 use lib.ListN.{length, replicate}
 use Rattle.buffers.specs.LittleEndian.{bytesOf}
 use Rattle.buffers.proofs.Standing.{Stands}

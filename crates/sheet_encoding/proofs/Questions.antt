@@ -1,30 +1,29 @@
 -- Every question of reading but the checks' is answered yes for the bytes of a trail.
-use Prim.Native.Nat.{ℕ, zero, suc, _+_, _*_, _-_, _/_, _%_, _^_, _<_, _≤_}
+use Prim.Native.Nat.{ℕ, zero, _+_, _*_, _-_, _/_, _%_, _^_, _<_, _≤_}
 use native.Mathlib.Decide.{decLt}
-use native.Mathlib.Nat.{add-mul-mod-self-left, add-mul-div-left}
 use native.Mathlib.Omega.{arith}
-use mathlib.Core.Path.{_≡_, refl, sym, ap, ap₂, subst, _∙_}
-use mathlib.Core.Bool.{Bool, true, false, not, _&&_, _||_, cond, and-eq-true-iff, true≢false}
-use mathlib.Core.List.{List, [], _∷_, _++_}
+use mathlib.Core.Path.{_≡_, refl, sym, ap, subst, _∙_}
+use mathlib.Core.Bool.{Bool, true, false, not, _&&_, _||_, cond, and-eq-true-iff}
+use mathlib.Core.List.{List}
 use borrow.Author.Tests.{eq-eqb, ne-eqb, lt-ltb, le-ltb, le-leb, ltb-false}
-use lib.Dec.{eqb, ltb, leb}
+use lib.Dec.{eqb, ltb}
 use lib.ListN.{length, getD, replicate, getD-replicate, length-replicate}
 use Rattle.words.specs.Words.{isWord}
 use Rattle.words.specs.Below.{all, concat}
 use Rattle.words.proofs.Below.{all-yes}
-use Rattle.buffers.specs.LittleEndian.{byteAt, numberAt, bytesOf}
+use Rattle.buffers.specs.LittleEndian.{byteAt}
 use Rattle.buffers.proofs.Standing.{Stands, stands-at, stands-left, stands-right}
 use Rattle.trail.specs.declared.Line.{Line}
 use Rattle.trail.specs.Kinds.{kindOf, usesSecond, usesAmount, usesConstant, wantsDistinct}
 use Rattle.trail.specs.Trail.{Trail, inputCount, lineCount, noLine, lineAt}
 use Rattle.trail.specs.WellFormed.{WellFormedLine, WellFormed, Sized}
 use Rattle.trail.proofs.KindNumbers.{known-within}
-use Rattle.sheet.specs.Form.{markOf, wordBytes, widthMost, recordBytes, recordsInBlock, tailBytes, inputsEnd, blocksMost}
-use Rattle.sheet.specs.Blocks.{blockBytes, checkOffset, lengthLeast, lengthMost}
-use Rattle.sheet.specs.Asking.{Question, ask, allYes}
+use Rattle.sheet.specs.Form.{markOf, widthMost, recordBytes, recordsInBlock, tailBytes, inputsEnd, blocksMost}
+use Rattle.sheet.specs.Blocks.{blockBytes, checkOffset}
+use Rattle.sheet.specs.Asking.{Question, allYes}
 use Rattle.sheet.specs.Asking.Verdict.{accepted}
-use Rattle.sheet.specs.Fields.{formOf, headerOf, inputDifference, recordOf}
-use Rattle.sheet.specs.Questions.{within, zeroBytes, lengthQuestions, marked, lineBlocks, linesRight, inputRight, headerQuestions, operandsEarlier, operandsDiffer, amountRight, constantRight, unusedZero, recordQuestions, lineQuestions, recordRest, blockRest, restQuestion, laterQuestions}
+use Rattle.sheet.specs.Fields.{headerOf}
+use Rattle.sheet.specs.Questions.{within, zeroBytes, lengthQuestions, lineBlocks, linesRight, inputRight, headerQuestions, operandsEarlier, operandsDiffer, amountRight, constantRight, unusedZero, recordQuestions, lineQuestions, recordRest, blockRest, restQuestion, laterQuestions}
 use Rattle.sheet.specs.declared.Form.{Form}
 use Rattle.sheet.specs.declared.Header.{Header}
 use Rattle.sheet.specs.declared.Record.{Record}

@@ -5,7 +5,6 @@ use borrow.Author.Needs.{needs}
 use Rattle.differential.specs.declared.Differential.{Differential}
 use Rattle.differential.specs.Demand2.{Proper}
 use Rattle.differential.specs.Report.{reportOf}
-use Prim.Native.Nat.{_≤_}
 use Rattle.sheet_reports.specs.Lines.{differentialOf, lineReport}
 use Rattle.sheet_reports.proofs.ProperLines.{proper-line}
 use Rattle.sheet_reports.proofs.report_at.Tie as tie
