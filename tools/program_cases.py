@@ -104,7 +104,7 @@ def own_sheets():
         write(crate, data, text(data))
 
 
-# The sheets of program_cases
+# The sheets of the cases
 
 def header_text(data):
     return clauses_text(data).split("\n")[0] + "\n"
