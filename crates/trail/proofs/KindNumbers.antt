@@ -9,11 +9,11 @@ use native.Mathlib.Omega.{arith}
 use borrow.Author.Tests.{ne-eqb}
 use types.Run.{OneOf}
 use Rattle.trail.specs.Kinds.{Kind, kindOf}
-use Rattle.trail.specs.Kinds.Kind.{xorWords, xorConstant, rotatesLeft, rotatesRight, addWords, addConstant, unknown}
+use Rattle.trail.specs.Kinds.Kind.{xorWords, xorConstant, rotatesLeft, rotatesRight, addWords, addConstant, shiftsLeft, shiftsRight, subtractWords, unknown}
 
 -- the highest number of a kind
 abbrev pub lastKind : ℕ
-lastKind = 6
+lastKind = 9
 
 -- past it no number is a kind
 kind-past : (k : ℕ) → lastKind < k → kindOf k ≡ unknown
@@ -26,6 +26,9 @@ kind-past k h =
       ne-eqb k 4 (λ e. omega arith),
       ne-eqb k 5 (λ e. omega arith),
       ne-eqb k 6 (λ e. omega arith),
+      ne-eqb k 7 (λ e. omega arith),
+      ne-eqb k 8 (λ e. omega arith),
+      ne-eqb k 9 (λ e. omega arith),
     )
 
 kind-zero : kindOf 0 ≡ unknown
@@ -152,6 +155,9 @@ isKnown rotatesLeft = true
 isKnown rotatesRight = true
 isKnown addWords = true
 isKnown addConstant = true
+isKnown shiftsLeft = true
+isKnown shiftsRight = true
+isKnown subtractWords = true
 isKnown unknown = false
 
 pub known : (k : ℕ) → 1 ≤ k → k ≤ lastKind → kindOf k ≢ unknown

@@ -2,16 +2,16 @@
 use Prim.Native.Nat.{ℕ, _<_, _≤_}
 use native.Mathlib.Omega.{arith}
 use mathlib.Core.Path.{_≡_, refl}
-use mathlib.Core.Logic.{_⊎_, ⊎-elim}
+use mathlib.Core.Logic.{_⊎_, inl, inr}
 use mathlib.Core.Bool.{true, false}
 use Rattle.trail.specs.Kinds.{kindOf, usesSecond, usesAmount, usesConstant, wantsDistinct}
-use Rattle.trail.proofs.KindNumbers.{at-key, at-keys, in-range, numbersWith, no-number}
+use Rattle.trail.proofs.KindNumbers.{at-keys, in-range, numbersWith, no-number}
 
-pub second-used : (k : ℕ) → (k ≡ 1) ⊎ (k ≡ 5) → usesSecond (kindOf k) ≡ true
+pub second-used : (k : ℕ) → (k ≡ 1) ⊎ ((k ≡ 5) ⊎ (k ≡ 9)) → usesSecond (kindOf k) ≡ true
 unfolding kindOf
-second-used k h = at-keys (λ q. usesSecond q ≡ true) (numbersWith usesSecond) k h (refl, (refl, tt))
+second-used k h = at-keys (λ q. usesSecond q ≡ true) (numbersWith usesSecond) k h (refl, (refl, (refl, tt)))
 
-pub second-unused : (k : ℕ) → ((k ≡ 1) ⊎ (k ≡ 5) → ⊥) → usesSecond (kindOf k) ≡ false
+pub second-unused : (k : ℕ) → ((k ≡ 1) ⊎ ((k ≡ 5) ⊎ (k ≡ 9)) → ⊥) → usesSecond (kindOf k) ≡ false
 unfolding kindOf
 second-unused k h = no-number usesSecond k refl h
 
@@ -23,25 +23,32 @@ pub constant-unused : (k : ℕ) → ((k ≡ 2) ⊎ (k ≡ 6) → ⊥) → usesCo
 unfolding kindOf
 constant-unused k h = no-number usesConstant k refl h
 
-pub distinct-wanted : (k : ℕ) → k ≡ 5 → wantsDistinct (kindOf k) ≡ true
+pub distinct-wanted : (k : ℕ) → (k ≡ 5) ⊎ (k ≡ 9) → wantsDistinct (kindOf k) ≡ true
 unfolding kindOf
-distinct-wanted k e = at-key (λ q. wantsDistinct q ≡ true) e refl
+distinct-wanted k h = at-keys (λ q. wantsDistinct q ≡ true) (numbersWith wantsDistinct) k h (refl, (refl, tt))
 
-pub distinct-unwanted : (k : ℕ) → (k ≡ 5 → ⊥) → wantsDistinct (kindOf k) ≡ false
+pub distinct-unwanted : (k : ℕ) → ((k ≡ 5) ⊎ (k ≡ 9) → ⊥) → wantsDistinct (kindOf k) ≡ false
 unfolding kindOf
 distinct-unwanted k h = no-number wantsDistinct k refl h
 
+-- the rotations and the shifts are a range of numbers each
 pub amount-used : (k : ℕ) → 3 ≤ k → k < 5 → usesAmount (kindOf k) ≡ true
 unfolding kindOf
 amount-used k least most = in-range (λ q. usesAmount q ≡ true) least most (refl, (refl, tt))
 
-pub amount-unused-below : (k : ℕ) → k < 3 → usesAmount (kindOf k) ≡ false
+pub amount-used-above : (k : ℕ) → 7 ≤ k → k < 9 → usesAmount (kindOf k) ≡ true
 unfolding kindOf
-amount-unused-below k l = no-number usesAmount k refl (⊎-elim (λ e. omega arith) (λ e. omega arith))
+amount-used-above k least most = in-range (λ q. usesAmount q ≡ true) least most (refl, (refl, tt))
 
-pub amount-unused-above : (k : ℕ) → 5 ≤ k → usesAmount (kindOf k) ≡ false
+pub amount-unused : (k : ℕ) → ((3 ≤ k) × (k < 5) → ⊥) → ((7 ≤ k) × (k < 9) → ⊥) → usesAmount (kindOf k) ≡ false
 unfolding kindOf
-amount-unused-above k l = no-number usesAmount k refl (⊎-elim (λ e. omega arith) (λ e. omega arith))
+amount-unused k low high = no-number usesAmount k refl out
+  where
+    out : (k ≡ 3) ⊎ ((k ≡ 4) ⊎ ((k ≡ 7) ⊎ (k ≡ 8))) → ⊥
+    out (inl e) = low (omega arith, omega arith)
+    out (inr (inl e)) = low (omega arith, omega arith)
+    out (inr (inr (inl e))) = high (omega arith, omega arith)
+    out (inr (inr (inr e))) = high (omega arith, omega arith)
 
 pub ruleset kind-tests = (
   second-used,
@@ -51,6 +58,6 @@ pub ruleset kind-tests = (
   distinct-wanted,
   distinct-unwanted,
   amount-used,
-  amount-unused-below,
-  amount-unused-above,
+  amount-used-above,
+  amount-unused,
 )

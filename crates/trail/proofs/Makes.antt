@@ -4,10 +4,12 @@ use Prim.Native.Nat.{ℕ, _^_, _<_}
 use lib.Bits.{xor-lt}
 use lib.Pow.{pow-pos}
 use Rattle.words.proofs.Rotations.{rotateLeft-lt, rotateRight-lt}
+use Rattle.words.proofs.Shifts.{shiftLeft-lt, shiftRight-lt}
+use Rattle.words.proofs.Subtraction.{differenceModulo-lt}
 use Rattle.words.proofs.Sums.{sumModulo-lt}
 use Rattle.trail.specs.declared.Line.{Line}
 use Rattle.trail.specs.Kinds.{Kind, kindOf, usesAmount, usesConstant, makesAs, makes}
-use Rattle.trail.specs.Kinds.Kind.{xorWords, xorConstant, rotatesLeft, rotatesRight, addWords, addConstant, unknown}
+use Rattle.trail.specs.Kinds.Kind.{xorWords, xorConstant, rotatesLeft, rotatesRight, addWords, addConstant, shiftsLeft, shiftsRight, subtractWords, unknown}
 use Rattle.trail.specs.WellFormed.{WellFormedLine}
 
 pub makes-as : (q : Kind) (n : ℕ) (l : Line) (x y : ℕ) → kindOf (l .kind) ≡ q → makes n l x y ≡ makesAs q n l x y
@@ -26,4 +28,7 @@ makes-word {n} {j} {l} w x y hx hy = at (kindOf (l .kind)) refl
     at rotatesRight e = rotateRight-lt n (l .amount) x (w .amount-least (ap usesAmount e)) (w .amount-most (ap usesAmount e)) hx
     at addWords e = sumModulo-lt n x y
     at addConstant e = sumModulo-lt n x (l .constant)
+    at shiftsLeft e = shiftLeft-lt n (l .amount) x
+    at shiftsRight e = shiftRight-lt n (l .amount) x hx
+    at subtractWords e = differenceModulo-lt n x y
     at unknown e = pow-pos n
