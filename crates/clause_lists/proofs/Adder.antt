@@ -1,15 +1,17 @@
--- Sums bit by bit: results and carries that are tied together as a bit's inputs are make up the sum and its carries, and only
--- those do.
+-- Sums and differences bit by bit: results and carries that are tied together as a bit's inputs are make up the word and its carries
+-- or borrows, and only those do.
 use mathlib.Core.Path.{_≡_, refl, sym, ap, _∙_}
 use mathlib.Core.Logic.{_↔_}
 use mathlib.Core.Bool.{Bool, true, false, xor}
-use mathlib.Core.List.{[], _∷_}
-use Prim.Native.Nat.{ℕ, zero, suc, _<_}
+use mathlib.Core.List.{List, [], _∷_}
+use Prim.Native.Nat.{ℕ, zero, suc, _^_, _<_}
 use native.Mathlib.Omega.{arith}
-use Rattle.words.specs.Words.{bit, sumModulo, carryInto, majority}
-use Rattle.words.proofs.Bits.{xor-comm, false-xor}
-use Rattle.words.proofs.Sums.{carry-zero, carry-suc, bit-sumModulo}
-use Rattle.clause_lists.specs.Kinds.{parity, ones, twoOrMore}
+use Rattle.words.specs.Words.{bit, fromBits, sumModulo, differenceModulo, carryInto, borrowInto, majority}
+use Rattle.words.proofs.TruthTables.{by-table}
+use Rattle.words.proofs.Bits.{fromBits-lt, bit-fromBits, word-ext, xor-comm, false-xor}
+use Rattle.words.proofs.Sums.{sumModulo-lt, carry-zero, carry-suc, bit-sumModulo}
+use Rattle.words.proofs.Subtraction.{differenceModulo-lt, difference-back, sum-back, borrow-zero, borrow-carry}
+use Rattle.clause_lists.specs.Kinds.{parity, ones, twoOrMore, lessThan}
 
 pub parity-one : (a : Bool) → parity (a ∷ []) ≡ a
 unfolding parity
@@ -25,25 +27,38 @@ parity-three a b c = ap (xor a) (parity-two b c)
 
 two-of-three : (a b c : Bool) → twoOrMore (a ∷ b ∷ c ∷ []) ≡ majority a b c
 unfolding twoOrMore ones
-two-of-three true true true = refl
-two-of-three true true false = refl
-two-of-three true false true = refl
-two-of-three true false false = refl
-two-of-three false true true = refl
-two-of-three false true false = refl
-two-of-three false false true = refl
-two-of-three false false false = refl
+two-of-three = by-table 3 (λ a b c. twoOrMore (a ∷ b ∷ c ∷ [])) majority refl
 
--- result r and carries c of the summands x and y
+-- the next borrow, as the carry of the sum that turns the result back
+less-turned : (a b c : Bool) → lessThan (a ∷ b ∷ c ∷ []) ≡ twoOrMore (parity (a ∷ b ∷ c ∷ []) ∷ b ∷ c ∷ [])
+unfolding lessThan twoOrMore ones parity xor
+less-turned = by-table 3 (λ a b c. lessThan (a ∷ b ∷ c ∷ [])) (λ a b c. twoOrMore (parity (a ∷ b ∷ c ∷ []) ∷ b ∷ c ∷ [])) refl
+
+parity-turned : (a b c : Bool) → parity (parity (a ∷ b ∷ c ∷ []) ∷ b ∷ c ∷ []) ≡ a
+unfolding parity xor
+parity-turned = by-table 3 (λ a b c. parity (parity (a ∷ b ∷ c ∷ []) ∷ b ∷ c ∷ [])) (λ a b c. a) refl
+
+-- The result r and the carries c of words x and y are tied bit by bit: each bit of the result is the XOR of the inputs, and the next
+-- carry, unless it goes out of bit n - 1, is what `next` makes of them.
+abbrev pub BitTied : ℕ → (List Bool → Bool) → ℕ → ℕ → (ℕ → Bool) → (ℕ → Bool) → ℕ → Type 0
+BitTied n next x y r c i =
+    (r i ≡ parity (bit x i ∷ bit y i ∷ c i ∷ []))
+    × (suc i < n → c (suc i) ≡ next (bit x i ∷ bit y i ∷ c i ∷ []))
+
+-- Results and carries that are tied so make up a word and its carries, and only those do.
+pub record Carrying (n : ℕ) (next : List Bool → Bool) (carry : ℕ → ℕ → ℕ → Bool) (word : ℕ → ℕ → ℕ) : Type 0 where
+  pub word-lt : (x y : ℕ) → word x y < 2 ^ n
+  pub carry-none : (x y : ℕ) → carry x y 0 ≡ false
+  pub tied-iff : (x y : ℕ) → x < 2 ^ n → (r c : ℕ → Bool) → c 0 ≡ false
+      → ((i : ℕ) → i < n → BitTied n next x y r c i)
+      ↔ (((i : ℕ) → i < n → r i ≡ bit (word x y) i) × ((i : ℕ) → i < n → c i ≡ carry x y i))
+
 module _ (n x y : ℕ) (r c : ℕ → Bool) where
-  -- bit i: the result, and the next carry unless it goes out of bit n - 1
-  abbrev pub BitAdds : ℕ → Type 0
-  BitAdds i =
-      (r i ≡ parity (bit x i ∷ bit y i ∷ c i ∷ []))
-      × (suc i < n → c (suc i) ≡ twoOrMore (bit x i ∷ bit y i ∷ c i ∷ []))
+  abbrev BitAdds : ℕ → Type 0
+  BitAdds i = BitTied n twoOrMore x y r c i
 
   -- THE ADDER
-  pub adder-iff : c 0 ≡ false
+  adder-iff : c 0 ≡ false
       → ((i : ℕ) → i < n → BitAdds i)
       ↔ (((i : ℕ) → i < n → r i ≡ bit (sumModulo n x y) i) × ((i : ℕ) → i < n → c i ≡ carryInto x y i))
   adder-iff none = (λ h. (λ i l. h i l .0 ∙ sum-bit i l (carried h i l), carried h), λ h i l. (result h i l, next h i l))
@@ -69,3 +84,74 @@ module _ (n x y : ℕ) (r c : ℕ → Bool) where
       next : ((i : ℕ) → i < n → r i ≡ bit (sumModulo n x y) i) × ((i : ℕ) → i < n → c i ≡ carryInto x y i)
           → (i : ℕ) → i < n → suc i < n → c (suc i) ≡ twoOrMore (bit x i ∷ bit y i ∷ c i ∷ [])
       next h i l more = h .1 (suc i) more ∙ sym (next-carry i (h .1 i l))
+
+pub sums-carry : (n : ℕ) → Carrying n twoOrMore carryInto (sumModulo n)
+sums-carry n = record {
+  word-lt = sumModulo-lt n;
+  carry-none = carry-zero;
+  tied-iff = λ x y hx r c none. adder-iff n x y r c none;
+}
+
+-- ---- THE SUBTRACTOR is the adder, turned: the result and the second word add up to the first
+
+module _ (n x y : ℕ) (hx : x < 2 ^ n) (r c : ℕ → Bool) where
+  abbrev z : ℕ
+  z = fromBits n r
+
+  bit-z : (i : ℕ) → i < n → bit z i ≡ r i
+  bit-z i l = bit-fromBits n r i l
+
+  turned : (i : ℕ) → i < n → BitTied n lessThan x y r c i ↔ BitTied n twoOrMore z y (bit x) c i
+  turned i l = (
+    λ h.
+        let e = bit-z i l ∙ h .0 in (
+          sym (ap (λ (b : Bool). parity (b ∷ bit y i ∷ c i ∷ [])) e ∙ parity-turned (bit x i) (bit y i) (c i)),
+          λ more. h .1 more ∙ less-turned (bit x i) (bit y i) (c i) ∙ ap (λ (b : Bool). twoOrMore (b ∷ bit y i ∷ c i ∷ [])) (sym e),
+        ),
+    λ h.
+        let e =
+        sym (parity-turned (bit z i) (bit y i) (c i)) ∙ ap (λ (b : Bool). parity (b ∷ bit y i ∷ c i ∷ [])) (sym (h .0)) in (
+          sym (bit-z i l) ∙ e,
+          λ more. h .1 more ∙ ap (λ (b : Bool). twoOrMore (b ∷ bit y i ∷ c i ∷ [])) e ∙ sym (less-turned (bit x i) (bit y i) (c i)),
+        ),
+  )
+
+  -- the first word is that sum exactly when the result is the difference
+  abbrev AddsUp : Type 0
+  AddsUp = ((i : ℕ) → i < n → bit x i ≡ bit (sumModulo n z y) i) × ((i : ℕ) → i < n → c i ≡ carryInto z y i)
+
+  abbrev IsDifference : Type 0
+  IsDifference = ((i : ℕ) → i < n → r i ≡ bit (differenceModulo n x y) i) × ((i : ℕ) → i < n → c i ≡ borrowInto x y i)
+
+  borrows : z ≡ differenceModulo n x y → (i : ℕ) → i < n → carryInto z y i ≡ borrowInto x y i
+  borrows e i l = ap (λ (w : ℕ). carryInto w y i) e ∙ borrow-carry n x y i (omega arith)
+
+  turned-back : AddsUp ↔ IsDifference
+  turned-back = (
+    λ h.
+        let sum : x ≡ sumModulo n z y = word-ext n x (sumModulo n z y) hx (sumModulo-lt n z y) (h .0) in
+        let e : z ≡ differenceModulo n x y =
+        sym (ap (λ (w : ℕ). differenceModulo n w y) sum ∙ sum-back n z y (fromBits-lt n r)) in
+        (λ i l. sym (bit-z i l) ∙ ap (λ (w : ℕ). bit w i) e, λ i l. h .1 i l ∙ borrows e i l),
+    λ h.
+        let e : z ≡ differenceModulo n x y =
+        word-ext n z (differenceModulo n x y) (fromBits-lt n r) (differenceModulo-lt n x y) (λ i l. bit-z i l ∙ h .0 i l) in
+        let sum : sumModulo n z y ≡ x = ap (λ (w : ℕ). sumModulo n w y) e ∙ difference-back n x y hx in
+        (λ i l. ap (λ (w : ℕ). bit w i) (sym sum), λ i l. h .1 i l ∙ sym (borrows e i l)),
+  )
+
+  subtractor-iff : c 0 ≡ false → ((i : ℕ) → i < n → BitTied n lessThan x y r c i) ↔ IsDifference
+  subtractor-iff none = (
+    λ h. turned-back .0 (adder .0 (λ i l. turned i l .0 (h i l))),
+    λ h i l. turned i l .1 (adder .1 (turned-back .1 h) i l),
+  )
+    where
+      adder : ((i : ℕ) → i < n → BitTied n twoOrMore z y (bit x) c i) ↔ AddsUp
+      adder = adder-iff n z y (bit x) c none
+
+pub differences-borrow : (n : ℕ) → Carrying n lessThan borrowInto (differenceModulo n)
+differences-borrow n = record {
+  word-lt = differenceModulo-lt n;
+  carry-none = λ x y. borrow-zero x y;
+  tied-iff = λ x y hx r c none. subtractor-iff n x y hx r c none;
+}

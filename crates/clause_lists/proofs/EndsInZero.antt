@@ -13,7 +13,7 @@ use Rattle.trail.specs.WellFormed.{WellFormed}
 use Rattle.cnf.specs.Formulas.{numbers}
 use Rattle.clause_lists.specs.Kinds.{hasCarries}
 use Rattle.clause_lists.specs.Lists.{lineClauses, lineList}
-use Rattle.clause_lists.specs.Sizes.{gatesAs, sizeOf, clausesOfGate}
+use Rattle.clause_lists.specs.Sizes.{filledBits, gatesAs, sizeOf, clausesOfGate}
 use Rattle.clause_lists.specs.Pairing.{EndsInZero}
 use Rattle.clause_lists.proofs.Lengths.{line-clauses-length}
 
@@ -37,15 +37,15 @@ ends-numbers (c ∷ d ∷ cs) h =
     ends-append c (pos zero ∷ numbers (d ∷ cs))
     (ends-append (pos zero ∷ []) (numbers (d ∷ cs)) (ends-numbers (d ∷ cs) (omega arith)))
 
-some-clauses : (second carries : Bool) (n : ℕ) → 2 ≤ n → 1 ≤ sizeOf clausesOfGate (gatesAs second carries n)
-some-clauses true true n h = omega arith
-some-clauses true false n h = omega arith
-some-clauses false true n h = omega arith
-some-clauses false false n h = omega arith
+some-clauses : (second carries : Bool) (n filled : ℕ) → 2 ≤ n → 1 ≤ sizeOf clausesOfGate (gatesAs second carries n filled)
+some-clauses true true n filled h = omega arith
+some-clauses true false n filled h = omega arith
+some-clauses false true n filled h = omega arith
+some-clauses false false n filled h = omega arith
 
 pub ends-in-zero : {t : Trail} → WellFormed t → (k : ℕ) → k < lineCount t → EndsInZero (lineList t k)
 unfolding lineList
 ends-in-zero {t} good k h =
     ends-numbers (lineClauses t k)
     (rw (line-clauses-length good k h)
-    (some-clauses (usesSecond (kindOf (lineAt t k .kind))) (hasCarries (kindOf (lineAt t k .kind))) (t .width) (good .width-least)))
+    (some-clauses (usesSecond (kindOf (lineAt t k .kind))) (hasCarries (kindOf (lineAt t k .kind))) (t .width) (filledBits (t .width) (lineAt t k)) (good .width-least)))

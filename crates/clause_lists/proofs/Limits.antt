@@ -6,28 +6,34 @@ use native.Mathlib.Omega.{arith}
 use lib.ListN.{length}
 use Rattle.words.specs.Below.{count}
 use Rattle.words.proofs.Below.{count-le, total-same, total-le}
+use Rattle.trail.specs.declared.Line.{Line}
 use Rattle.trail.specs.Kinds.{kindOf, usesSecond}
 use Rattle.trail.specs.Trail.{Trail, inputCount, lineCount, lineAt}
 use Rattle.trail.specs.WellFormed.{WellFormed, mostLines, mostWords, Sized}
-use Rattle.clause_lists.specs.Kinds.{hasCarries}
+use Rattle.clause_lists.specs.Kinds.{isFilled, gates, hasCarries}
 use Rattle.clause_lists.specs.Variables.{adds, variablesBefore, variables}
 use Rattle.clause_lists.specs.Lists.{lineClauses, lineList, clauseCount}
-use Rattle.clause_lists.specs.Sizes.{gatesAs, sizeOf, clausesOfGate, numbersOfGate}
+use Rattle.clause_lists.specs.Sizes.{filledBits, gatesAs, sizeOf, clausesOfGate, numbersOfGate}
 use Rattle.clause_lists.specs.Limits.{mostVariables, mostGates, mostClauses, mostNumbers, WithinLimits}
 use Rattle.clause_lists.proofs.Lengths.{line-clauses-length, line-list-length}
 
-clauses-most : (second carries : Bool) (n w : ℕ) → 2 ≤ n → n ≤ w
-    → sizeOf clausesOfGate (gatesAs second carries n) ≤ sizeOf clausesOfGate (mostGates w)
-clauses-most true true n w l h = omega arith
-clauses-most true false n w l h = omega arith
-clauses-most false true n w l h = omega arith
-clauses-most false false n w l h = omega arith
+filled-most : (n : ℕ) (l : Line) → filledBits n l ≤ n
+unfolding filledBits
+filled-most n l = count-le n (λ i. isFilled (gates (kindOf (l .kind)) .taken n (l .amount) i))
 
-numbers-most : (second carries : Bool) (n w : ℕ) → 2 ≤ n → n ≤ w → sizeOf numbersOfGate (gatesAs second carries n) ≤ mostNumbers w
-numbers-most true true n w l h = omega arith
-numbers-most true false n w l h = omega arith
-numbers-most false true n w l h = omega arith
-numbers-most false false n w l h = omega arith
+clauses-most : (second carries : Bool) (n w filled : ℕ) → 2 ≤ n → n ≤ w → filled ≤ n
+    → sizeOf clausesOfGate (gatesAs second carries n filled) ≤ sizeOf clausesOfGate (mostGates w)
+clauses-most true true n w filled l h f = omega arith
+clauses-most true false n w filled l h f = omega arith
+clauses-most false true n w filled l h f = omega arith
+clauses-most false false n w filled l h f = omega arith
+
+numbers-most : (second carries : Bool) (n w filled : ℕ) → 2 ≤ n → n ≤ w → filled ≤ n
+    → sizeOf numbersOfGate (gatesAs second carries n filled) ≤ mostNumbers w
+numbers-most true true n w filled l h f = omega arith
+numbers-most true false n w filled l h f = omega arith
+numbers-most false true n w filled l h f = omega arith
+numbers-most false false n w filled l h f = omega arith
 
 module _ (w : ℕ) {t : Trail} (small : Sized w t) where
   variables-most : variables t ≤ mostVariables w
@@ -49,7 +55,8 @@ module _ (w : ℕ) {t : Trail} (small : Sized w t) where
     line-clauses-most : (k : ℕ) → k < lineCount t → length (lineClauses t k) ≤ sizeOf clausesOfGate (mostGates w)
     line-clauses-most k h =
         rw (line-clauses-length good k h)
-        (clauses-most (usesSecond (kindOf (lineAt t k .kind))) (hasCarries (kindOf (lineAt t k .kind))) (t .width) w (good .width-least) (small .width-most))
+        (clauses-most (usesSecond (kindOf (lineAt t k .kind))) (hasCarries (kindOf (lineAt t k .kind))) (t .width) w (filledBits (t .width) (lineAt t k))
+        (good .width-least) (small .width-most) (filled-most (t .width) (lineAt t k)))
 
     pub clauses-count-most : clauseCount t ≤ mostClauses w
     unfolding clauseCount
@@ -65,7 +72,8 @@ module _ (w : ℕ) {t : Trail} (small : Sized w t) where
     line-list-most : (k : ℕ) → k < lineCount t → length (lineList t k) ≤ mostNumbers w
     line-list-most k h =
         rw (line-list-length good k h)
-        (numbers-most (usesSecond (kindOf (lineAt t k .kind))) (hasCarries (kindOf (lineAt t k .kind))) (t .width) w (good .width-least) (small .width-most))
+        (numbers-most (usesSecond (kindOf (lineAt t k .kind))) (hasCarries (kindOf (lineAt t k .kind))) (t .width) w (filledBits (t .width) (lineAt t k))
+        (good .width-least) (small .width-most) (filled-most (t .width) (lineAt t k)))
 
     pub within-limits : WithinLimits w t
     within-limits = record {

@@ -4,20 +4,20 @@ use mathlib.Core.Logic.{_↔_}
 use mathlib.Core.Bool.{Bool, true, false, _&&_, cond, xor, and-eq-true-iff, true≢false, false≢true}
 use mathlib.Core.List.{List, [], _∷_, _++_, map}
 use Prim.Native.Nat.{ℕ, zero, suc, _+_, _-_, _%_, _^_, _≤_, _<_}
-use native.Mathlib.Nat.{mod-lt}
+use native.Mathlib.Nat.{add-comm}
 use native.Mathlib.Numerals.{add-one}
 use native.Mathlib.Omega.{arith}
-use borrow.Author.Tests.{ltb-true, lt-ltb}
+use borrow.Author.Tests.{ltb-true, ltb-false, lt-ltb}
 use lib.Dec.{ltb}
 use lib.IntN.{ℤ}
-use Rattle.words.specs.Words.{bit, fromBits, sumModulo, carryInto}
+use Rattle.words.specs.Words.{bit, bitBelow, fromBits}
 use Rattle.words.specs.Below.{concat}
-use Rattle.words.proofs.Bits.{fromBits-lt, bit-fromBits, bit-xor, word-ext}
+use Rattle.words.proofs.Bits.{fromBits-lt, bit-fromBits, bit-past, bit-xor, word-ext}
 use Rattle.words.proofs.Rotations.{bit-rotateLeft, bit-rotateRight}
-use Rattle.words.proofs.Sums.{sumModulo-lt, carry-zero}
+use Rattle.words.proofs.Shifts.{bit-shiftLeft, bit-shiftRight}
 use Rattle.trail.specs.declared.Line.{Line}
 use Rattle.trail.specs.Kinds.{Kind, kindOf, usesSecond, usesAmount, makesAs, makes}
-use Rattle.trail.specs.Kinds.Kind.{xorWords, xorConstant, rotatesLeft, rotatesRight, addWords, addConstant, unknown}
+use Rattle.trail.specs.Kinds.Kind.{xorWords, xorConstant, rotatesLeft, rotatesRight, addWords, addConstant, shiftsLeft, shiftsRight, subtractWords, unknown}
 use Rattle.trail.specs.WellFormed.{WellFormedLine}
 use Rattle.trail.proofs.Makes.{makes-as, makes-word}
 use Rattle.cnf.specs.Formulas.{holds, allHold}
@@ -25,12 +25,13 @@ use Rattle.cnf.specs.Gates.{Input, gate}
 use Rattle.cnf.proofs.Clauses.{Nonzero, all-hold-append, all-hold-concat}
 use Rattle.cnf.proofs.Rows.{inputValue}
 use Rattle.cnf.proofs.GateLemma.{gate-iff}
-use Rattle.clause_lists.specs.Kinds.{Carries, someCarries, gates, hasCarries, carryInput, inputsAs, parity, twoOrMore}
+use Rattle.clause_lists.specs.Kinds.{Taken, Carries, someCarries, gates, hasCarries, takenInput, carryInput, inputsAs, parity}
+use Rattle.clause_lists.specs.Kinds.Taken.{bitAt, noBit}
 use Rattle.clause_lists.specs.Kinds.Carries.{none, made}
 use Rattle.clause_lists.specs.Lists.{inputs, nextClauses, bitClauses, runClauses}
 use Rattle.clause_lists.specs.Assignments.{secondSummand, carried}
-use Rattle.clause_lists.proofs.Adder.{parity-one, parity-two, BitAdds, adder-iff}
-use Rattle.clause_lists.proofs.RunLiterals.{Literals, every-input}
+use Rattle.clause_lists.proofs.Adder.{parity-one, parity-two, BitTied, Carrying, sums-carry, differences-borrow}
+use Rattle.clause_lists.proofs.RunLiterals.{Within, taken-within, Literals, every-input}
 
 -- the word of n bits that literals read
 abbrev pub readWord : (ℕ → Bool) → ℕ → (ℕ → ℤ) → ℕ
@@ -159,42 +160,82 @@ module _ (v : ℕ → Bool) {n j : ℕ} {l : Line} {word : ℕ → ℕ → ℤ} 
   unfolding inputValue
   no-carry = refl
 
-  -- an addition of the summand s
-  module _ (s : ℕ) (values : ℕ → List Bool) (are : (i : ℕ) → i < n → values i ≡ bit x i ∷ bit s i ∷ carryValue i ∷ []) where
-    adds-iff : (i : ℕ) → i < n
-        → (ResultIs (values i) i × NextIs (made twoOrMore carryInto) (values i) i)
-        ↔ BitAdds n x s (λ i. holds v (word j i)) carryValue i
-    adds-iff i h = (
-      λ r. (r .0 ∙ ap parity (are i h), λ more. carry-next i ∙ r .1 more ∙ ap twoOrMore (are i h)),
-      λ r. (r .0 ∙ ap parity (sym (are i h)), λ more. sym (carry-next i) ∙ r .1 more ∙ ap twoOrMore (sym (are i h))),
+  -- an addition of the summand s, or a subtraction of it: a word whose carries or borrows are tied bit by bit
+  module _ {next : List Bool → Bool} {value : ℕ → ℕ → ℕ → Bool} {result : ℕ → ℕ → ℕ} (law : Carrying n next value result)
+      (s : ℕ) (values : ℕ → List Bool) (are : (i : ℕ) → i < n → values i ≡ bit x i ∷ bit s i ∷ carryValue i ∷ []) where
+    tied-iff : (i : ℕ) → i < n
+        → (ResultIs (values i) i × NextIs (made next value) (values i) i)
+        ↔ BitTied n next x s (λ i. holds v (word j i)) carryValue i
+    tied-iff i h = (
+      λ r. (r .0 ∙ ap parity (are i h), λ more. carry-next i ∙ r .1 more ∙ ap next (are i h)),
+      λ r. (r .0 ∙ ap parity (sym (are i h)), λ more. sym (carry-next i) ∙ r .1 more ∙ ap next (sym (are i h))),
     )
 
-    abbrev SumRight : Type 0
-    SumRight =
-        ((i : ℕ) → i < n → holds v (word j i) ≡ bit (sumModulo n x s) i) × ((i : ℕ) → i < n → carryValue i ≡ carryInto x s i)
+    abbrev BitsRight : Type 0
+    BitsRight =
+        ((i : ℕ) → i < n → holds v (word j i) ≡ bit (result x s) i) × ((i : ℕ) → i < n → carryValue i ≡ value x s i)
 
-    sum-right : SumRight ↔ ((readAt j ≡ sumModulo n x s) × CarriesAre (made twoOrMore carryInto) s)
-    sum-right = (
+    bits-right : BitsRight ↔ ((readAt j ≡ result x s) × CarriesAre (made next value) s)
+    bits-right = (
       λ h. (
-        word-ext n (readAt j) (sumModulo n x s) (read-lt j) (sumModulo-lt n x s) (λ i k. sym (read-bit j i k) ∙ h .0 i k),
+        word-ext n (readAt j) (result x s) (read-lt j) (law .word-lt x s) (λ i k. sym (read-bit j i k) ∙ h .0 i k),
         λ i least k. sym (carry-value i least) ∙ h .1 i k,
       ),
       λ h. (λ i k. read-bit j i k ∙ ap (λ (z : ℕ). bit z i) (h .0), all-carries (h .1)),
     )
       where
-        all-carries : ((i : ℕ) → 1 ≤ i → i < n → holds v (carry i) ≡ carryInto x s i) → (i : ℕ) → i < n → carryValue i ≡ carryInto x s i
-        all-carries h zero k = no-carry ∙ sym (carry-zero x s)
+        all-carries : ((i : ℕ) → 1 ≤ i → i < n → holds v (carry i) ≡ value x s i) → (i : ℕ) → i < n → carryValue i ≡ value x s i
+        all-carries h zero k = no-carry ∙ sym (law .carry-none x s)
         all-carries h (suc i) k = carry-value (suc i) (omega arith) ∙ h (suc i) (omega arith) k
 
-    sum-iff : ((i : ℕ) → i < n → ResultIs (values i) i × NextIs (made twoOrMore carryInto) (values i) i)
-        ↔ ((readAt j ≡ sumModulo n x s) × CarriesAre (made twoOrMore carryInto) s)
-    sum-iff = (
-      λ h. sum-right .0 (adder .0 (λ i k. adds-iff i k .0 (h i k))),
-      λ h i k. adds-iff i k .1 (adder .1 (sum-right .1 h) i k),
+    carried-iff : ((i : ℕ) → i < n → ResultIs (values i) i × NextIs (made next value) (values i) i)
+        ↔ ((readAt j ≡ result x s) × CarriesAre (made next value) s)
+    carried-iff = (
+      λ h. bits-right .0 (bits .0 (λ i k. tied-iff i k .0 (h i k))),
+      λ h i k. tied-iff i k .1 (bits .1 (bits-right .1 h) i k),
     )
       where
-        adder : ((i : ℕ) → i < n → BitAdds n x s (λ i. holds v (word j i)) carryValue i) ↔ SumRight
-        adder = adder-iff n x s (λ i. holds v (word j i)) carryValue no-carry
+        bits : ((i : ℕ) → i < n → BitTied n next x s (λ i. holds v (word j i)) carryValue i) ↔ BitsRight
+        bits = law .tied-iff x s (read-lt (l .first)) (λ i. holds v (word j i)) carryValue no-carry
+
+  -- the values that the inputs of bit i have, by the bit of the first operand that it takes
+  abbrev takenValue : Taken → Bool
+  takenValue (bitAt p) = bit x p
+  takenValue noBit = false
+
+  taken-value : (p : Taken) → Within n p → inputValue v (takenInput p (word (l .first))) ≡ takenValue p
+  unfolding inputValue
+  taken-value (bitAt p) within = read-bit (l .first) p within
+  taken-value noBit within = refl
+
+  -- a kind whose bits are those of the first operand, in other places, or filled zeros
+  abbrev takenAt : Kind → ℕ → Taken
+  takenAt q i = gates q .taken n (l .amount) i
+
+  moved-iff : (q : Kind) → kindOf (l .kind) ≡ q → ((i : ℕ) → i < n → takenValue (takenAt q i) ≡ bit (makesAs q n l x y) i)
+      → ((i : ℕ) → i < n → ResultIs (inputValue v (takenInput (takenAt q i) (word (l .first))) ∷ []) i × Unit {0})
+      ↔ ((readAt j ≡ makesAs q n l x y) × Unit {0})
+  moved-iff q e is =
+      plain-iff (makesAs q n l x y) (λ i. inputValue v (takenInput (takenAt q i) (word (l .first))) ∷ []) (fits q e)
+      (λ i h.
+      parity-one (inputValue v (takenInput (takenAt q i) (word (l .first))))
+      ∙ taken-value (takenAt q i) (taken-within q n (l .amount) i h)
+      ∙ is i h)
+
+  left-value : (i : ℕ) → takenValue (takenAt shiftsLeft i) ≡ bitBelow (l .amount) x i
+  unfolding bitBelow
+  left-value i = at (ltb i (l .amount))
+    where
+      at : (b : Bool) → takenValue (cond b noBit (bitAt (i - l .amount))) ≡ cond b false (bit x (i - l .amount))
+      at true = refl
+      at false = refl
+
+  right-value : (i : ℕ) → takenValue (takenAt shiftsRight i) ≡ bit x (l .amount + i)
+  right-value i = at (ltb (i + l .amount) n) refl
+    where
+      at : (b : Bool) → ltb (i + l .amount) n ≡ b → takenValue (cond b (bitAt (i + l .amount)) noBit) ≡ bit x (l .amount + i)
+      at true e = ap (bit x) (add-comm i (l .amount))
+      at false e = sym (bit-past n x (l .amount + i) (read-lt (l .first)) (omega (arith, ltb-false (i + l .amount) n e)))
 
   kind-iff : (q : Kind) → kindOf (l .kind) ≡ q → KindIff q
   unfolding inputValue
@@ -211,26 +252,27 @@ module _ (v : ℕ → Bool) {n j : ℕ} {l : Line} {word : ℕ → ℕ → ℤ} 
       ∙ ap (λ (b : Bool). xor b (bit (l .constant) i)) (read-bit (l .first) i h)
       ∙ sym (bit-xor x (l .constant) i))
   kind-iff rotatesLeft e =
-      plain-iff (makesAs rotatesLeft n l x y) (valuesAs rotatesLeft) (fits rotatesLeft e)
-      (λ i h.
-      parity-one (holds v (word (l .first) ((i + (n - l .amount)) % n)))
-      ∙ read-bit (l .first) ((i + (n - l .amount)) % n) (mod-lt (i + (n - l .amount)) (omega arith))
-      ∙ sym (bit-rotateLeft n (l .amount) x i (good .amount-most (ap usesAmount e)) (read-lt (l .first)) h))
+      moved-iff rotatesLeft e
+      (λ i h. sym (bit-rotateLeft n (l .amount) x i (good .amount-most (ap usesAmount e)) (read-lt (l .first)) h))
   kind-iff rotatesRight e =
-      plain-iff (makesAs rotatesRight n l x y) (valuesAs rotatesRight) (fits rotatesRight e)
+      moved-iff rotatesRight e
       (λ i h.
-      parity-one (holds v (word (l .first) ((i + l .amount) % n)))
-      ∙ read-bit (l .first) ((i + l .amount) % n) (mod-lt (i + l .amount) (omega arith))
-      ∙ sym
+      sym
       (bit-rotateRight n (l .amount) x i (good .amount-least (ap usesAmount e)) (good .amount-most (ap usesAmount e))
       (read-lt (l .first)) h))
   kind-iff addWords e =
-      sum-iff y (valuesAs addWords)
+      carried-iff (sums-carry n) y (valuesAs addWords)
       (λ i h.
       ap₂ (λ (a b : Bool). a ∷ b ∷ carryValue i ∷ []) (read-bit (l .first) i h) (read-bit (l .second) i h))
   kind-iff addConstant e =
-      sum-iff (l .constant) (valuesAs addConstant)
+      carried-iff (sums-carry n) (l .constant) (valuesAs addConstant)
       (λ i h. ap (λ (b : Bool). b ∷ bit (l .constant) i ∷ carryValue i ∷ []) (read-bit (l .first) i h))
+  kind-iff shiftsLeft e = moved-iff shiftsLeft e (λ i h. left-value i ∙ sym (bit-shiftLeft n (l .amount) x i h))
+  kind-iff shiftsRight e = moved-iff shiftsRight e (λ i h. right-value i ∙ sym (bit-shiftRight (l .amount) x i))
+  kind-iff subtractWords e =
+      carried-iff (differences-borrow n) y (valuesAs subtractWords)
+      (λ i h.
+      ap₂ (λ (a b : Bool). a ∷ b ∷ carryValue i ∷ []) (read-bit (l .first) i h) (read-bit (l .second) i h))
   kind-iff unknown e = absurd (good .kind-known e)
 
   -- the carries' values, as the statement has them

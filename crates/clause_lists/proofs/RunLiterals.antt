@@ -2,7 +2,7 @@
 use mathlib.Core.Path.{_≡_, refl, sym, ap, subst}
 use mathlib.Core.Bool.{Bool, true, false, cond}
 use mathlib.Core.List.{List, [], _∷_, _++_}
-use Prim.Native.Nat.{ℕ, zero, suc, _+_, _<_}
+use Prim.Native.Nat.{ℕ, zero, suc, _+_, _-_, _<_}
 use native.Mathlib.Nat.{mod-lt}
 use native.Mathlib.Numerals.{add-one}
 use native.Mathlib.Omega.{arith}
@@ -11,7 +11,7 @@ use lib.Dec.{ltb}
 use lib.IntN.{ℤ, negℤ}
 use Rattle.trail.specs.declared.Line.{Line}
 use Rattle.trail.specs.Kinds.{Kind, kindOf, usesSecond, usesConstant}
-use Rattle.trail.specs.Kinds.Kind.{xorWords, xorConstant, rotatesLeft, rotatesRight, addWords, addConstant, unknown}
+use Rattle.trail.specs.Kinds.Kind.{xorWords, xorConstant, rotatesLeft, rotatesRight, addWords, addConstant, shiftsLeft, shiftsRight, subtractWords, unknown}
 use Rattle.words.specs.Words.{bit}
 use Rattle.cnf.specs.Gates.{Input, gate}
 use Rattle.cnf.specs.Gates.Input.{known, literal}
@@ -35,6 +35,17 @@ taken-within rotatesLeft n r i h = mod-lt _ (omega arith)
 taken-within rotatesRight n r i h = mod-lt _ (omega arith)
 taken-within addWords n r i h = h
 taken-within addConstant n r i h = h
+taken-within shiftsLeft n r i h = at (ltb i r)
+  where
+    at : (b : Bool) → Within n (cond b noBit (bitAt (i - r)))
+    at true = tt
+    at false = omega arith
+taken-within shiftsRight n r i h = at (ltb (i + r) n) refl
+  where
+    at : (b : Bool) → ltb (i + r) n ≡ b → Within n (cond b (bitAt (i + r)) noBit)
+    at true e = ltb-true (i + r) n e
+    at false e = tt
+taken-within subtractWords n r i h = h
 taken-within unknown n r i h = tt
 
 -- P holds of each literal that a run of width n, making word j, may use

@@ -1,5 +1,5 @@
 -- Assignments of a trail's variables: the starting value that one spells, and the values that two runs give (document 01,
--- "Clauses").
+-- "Clauses"; document 02, W-201).
 use Prim.Native.Nat.{ℕ, _+_, _-_, _*_, _^_, _<_, _≤_}
 use mathlib.Core.Path.{_≡_}
 use mathlib.Core.Bool.{Bool, true, false, cond}
@@ -26,7 +26,7 @@ abbrev pub startOf : Trail → Run → List ℕ → List ℕ
 startOf t firstRun x = x
 startOf t secondRun x = partner t x
 
--- the second summand of an addition, y being the second operand's word: a constant is one
+-- the second summand of an addition, y being the second operand's word: a constant is one; of a subtraction the second word
 abbrev pub secondSummand : Line → ℕ → ℕ
 secondSummand l y = cond (usesSecond (kindOf (l .kind))) y (l .constant)
 
@@ -35,7 +35,8 @@ abbrev pub carried : Carries → ℕ → ℕ → ℕ → Bool
 carried none x y i = false
 carried (made next value) x y i = value x y i
 
--- the carry into bit i of line k in a run: 1 exactly when the low i bits of the two summands add up to 2 ^ i or more, else 0
+-- The carry into bit i of line k in a run: 1 exactly when the low i bits of the two summands add up to 2 ^ i or more, else 0. A
+-- borrow replaces it in a subtraction: 1 exactly when the first word's low i bits are less than the second's.
 unfoldable pub carryOf : Trail → Run → List ℕ → ℕ → ℕ → Bool
 carryOf t run x k i =
     carried (gates (kindOf (lineAt t k .kind)) .carries)

@@ -1,13 +1,13 @@
--- What each kind of line ties together in a bit (document 01, "Clauses").
+-- What each kind of line ties together in a bit (document 01, "Clauses"; document 02, W-201).
 use Prim.Native.Nat.{ℕ, zero, suc, _+_, _-_, _%_}
 use mathlib.Core.Bool.{Bool, true, false, xor, cond}
 use mathlib.Core.List.{List, [], _∷_, _++_}
-use lib.Dec.{leb}
+use lib.Dec.{leb, ltb}
 use lib.IntN.{ℤ}
-use Rattle.words.specs.Words.{bit, value, carryInto}
+use Rattle.words.specs.Words.{bit, value, carryInto, borrowInto}
 use Rattle.trail.specs.declared.Line.{Line}
 use Rattle.trail.specs.Kinds.{Kind, usesSecond, usesConstant}
-use Rattle.trail.specs.Kinds.Kind.{xorWords, xorConstant, rotatesLeft, rotatesRight, addWords, addConstant, unknown}
+use Rattle.trail.specs.Kinds.Kind.{xorWords, xorConstant, rotatesLeft, rotatesRight, addWords, addConstant, shiftsLeft, shiftsRight, subtractWords, unknown}
 use Rattle.cnf.specs.Gates.{Input}
 use Rattle.cnf.specs.Gates.Input.{known, literal}
 
@@ -24,13 +24,23 @@ ones (b ∷ bs) = value b + ones bs
 unfoldable pub twoOrMore : List Bool → Bool
 twoOrMore bs = leb 2 (ones bs)
 
--- A bit of a line takes a bit of the first operand, or none: then its input is the value 0, which is no literal.
+-- the next borrow is 1 if the first of the inputs is less than the others together
+unfoldable pub lessThan : List Bool → Bool
+lessThan [] = false
+lessThan (b ∷ bs) = ltb (value b) (ones bs)
+
+-- A bit of a line takes a bit of the first operand, or none: then its input is a filled zero, a known value and no literal.
 pub data Taken : Type 0 where
   bitAt : ℕ → Taken
   noBit : Taken
 
+-- whether a zero is filled in
+abbrev pub isFilled : Taken → Bool
+isFilled (bitAt i) = false
+isFilled noBit = true
+
 -- The carries of a kind's lines: none, or those that a function makes of a bit's inputs; with the value that a run gives the carry
--- into bit i of summands x and y.
+-- into bit i of summands x and y. A borrow replaces the carry: its x and y are the first word and the second.
 pub data Carries : Type 0 where
   none : Carries
   made : (List Bool → Bool) → (ℕ → ℕ → ℕ → Bool) → Carries
@@ -42,7 +52,7 @@ pub record Gates : Type 0 where
   pub carries : Carries
 
 -- A word of n bits rotated left by r has in bit i the bit that stood r places below, around the end; rotated right, the one r places
--- above.
+-- above. A shift does not go around the end: where there is no such bit, a zero is filled in.
 abbrev pub gates : Kind → Gates
 gates xorWords = record { taken = λ n r i. bitAt i; carries = none }
 gates xorConstant = record { taken = λ n r i. bitAt i; carries = none }
@@ -50,6 +60,9 @@ gates rotatesLeft = record { taken = λ n r i. bitAt ((i + (n - r)) % n); carrie
 gates rotatesRight = record { taken = λ n r i. bitAt ((i + r) % n); carries = none }
 gates addWords = record { taken = λ n r i. bitAt i; carries = made twoOrMore carryInto }
 gates addConstant = record { taken = λ n r i. bitAt i; carries = made twoOrMore carryInto }
+gates shiftsLeft = record { taken = λ n r i. cond (ltb i r) noBit (bitAt (i - r)); carries = none }
+gates shiftsRight = record { taken = λ n r i. cond (ltb (i + r) n) (bitAt (i + r)) noBit; carries = none }
+gates subtractWords = record { taken = λ n r i. bitAt i; carries = made lessThan borrowInto }
 gates unknown = record { taken = λ n r i. noBit; carries = none }
 
 abbrev pub someCarries : Carries → Bool

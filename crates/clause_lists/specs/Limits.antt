@@ -17,7 +17,7 @@ mostVariables w = w * mostWords + 2 * (w - 1) * mostLines
 
 -- the gates of a line of kind 5, which has a second operand and carries: 4 with two literals, and 4w - 6 with three
 abbrev pub mostGates : ℕ → GateCounts
-mostGates w = gatesAs true true w
+mostGates w = gatesAs true true w 0
 
 abbrev pub mostClauses : ℕ → ℕ
 mostClauses w = sizeOf clausesOfGate (mostGates w) * mostLines

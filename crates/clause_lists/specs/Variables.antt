@@ -15,7 +15,7 @@ pub data Run : Type 0 where
 unfoldable pub bitVariable : Trail → ℕ → ℕ → ℕ
 bitVariable t j i = t .width * j + i + 1
 
--- whether line k is an addition line
+-- whether line k is an addition line: kinds 5, 6 and 9, a borrow replacing the carry (document 02, W-201)
 abbrev pub adds : Trail → ℕ → Bool
 adds t k = hasCarries (kindOf (lineAt t k .kind))
 

@@ -1,7 +1,7 @@
 -- The bits of a word, and the word of given bits.
-use mathlib.Core.Path.{_≡_, refl, sym, ap, ap₂, _∙_}
+use mathlib.Core.Path.{_≡_, refl, sym, ap, ap₂, subst, _∙_}
 use mathlib.Core.Bool.{Bool, true, false, not, _&&_, _||_, xor, cond}
-use Prim.Native.Nat.{ℕ, zero, suc, _+_, _*_, _-_, _/_, _%_, _^_, _<_, min, max}
+use Prim.Native.Nat.{ℕ, zero, suc, _+_, _*_, _-_, _/_, _%_, _^_, _≤_, _<_, min, max}
 use native.Mathlib.Nat.{add-comm, div-one, mod-lt, mul-assoc, mul-mod-left, pow-suc, suc-sub-suc, zero-div}
 use native.Mathlib.Decide.{decLt, ℕ-discrete}
 use native.Mathlib.Numerals.{one-add}
@@ -11,7 +11,7 @@ use lib.Bits.{bitAnd, bitOr, bitXor, differ, and-step, and-shr, or-step, or-shr,
 use lib.Dec.{eqb, ltb, leb·suc-suc}
 use borrow.Author.Tests.{lt-ltb, le-ltb, eq-eqb, ne-eqb}
 use mir.Val.{boolByte}
-use lib.Pow.{field, mod-mod-pow, mod-pow-add, pow-add, pow-pos, shr-shr, shl-shr}
+use lib.Pow.{field, mod-mod-pow, mod-pow-add, pow-add, pow-pos, shr-lt, shr-shr, shl-shr}
 use Rattle.words.specs.Words.{value, bit, bitBelow, fromBits}
 use Rattle.words.proofs.TruthTables.{by-table}
 
@@ -197,6 +197,20 @@ bit-and x y i =
 
 pub bit-none : (i : ℕ) → bit 0 i ≡ false
 bit-none i = value-inj (bit 0 i) false (value-bit 0 i ∙ ap (λ (z : ℕ). z % 2) (zero-div (2 ^ i)))
+
+-- a word of n bits has none past them
+pub bit-past : (n x i : ℕ) → x < 2 ^ n → n ≤ i → bit x i ≡ false
+bit-past n x i h past =
+    ap (bit x) parts ∙ sym (bit-shift x n (i - n)) ∙ ap (λ (z : ℕ). bit z (i - n)) none ∙ bit-none (i - n)
+  where
+    parts : i ≡ n + (i - n)
+    parts = omega arith
+
+    none : x / 2 ^ n ≡ 0
+    none = omega (arith, shr-lt 0 n (subst (λ (k : ℕ). x < 2 ^ k) whole h))
+      where
+        whole : n ≡ 0 + n
+        whole = omega arith
 
 -- x[i-k] is bit i of x shifted up by k places
 pub bitBelow-shift : (k x i : ℕ) → bitBelow k x i ≡ bit (x * 2 ^ k) i

@@ -105,3 +105,8 @@ borrow-carry n x y i h = at (leb p (a + b)) refl
         over : (a + b) % p ≡ a + b - p
         over = mod-eq-sub-mod (leb-true p (a + b) e) ∙ mod-eq-of-lt (omega (arith, less, mod-lt y (pow-pos i)))
     at false e = sym (le-ltb (x % p) b (omega (arith, low, mod-eq-of-lt (leb-false p (a + b) e))))
+
+-- none goes into bit 0
+pub borrow-zero : (x y : ℕ) → borrowInto x y 0 ≡ false
+unfolding borrowInto
+borrow-zero x y = le-ltb (x % 2 ^ 0) (y % 2 ^ 0) (omega (arith, mod-lt y (pow-pos 0)))
