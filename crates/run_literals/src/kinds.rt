@@ -8,17 +8,17 @@ pub fn uses_second(kind: u32) -> bool
     ensures { λ r. ⌜ r ≡ usesSecond (kindOf kind) ⌝ }
 {
     match kind {
-        1 | 5 => true,
+        1 | 5 | 9 => true,
         _ => false,
     }
 }
 
-// Whether it has carries.
+// Whether it has carries, or borrows in their place.
 pub fn has_carries(kind: u32) -> bool
     ensures { λ r. ⌜ r ≡ hasCarries (kindOf kind) ⌝ }
 {
     match kind {
-        5..=6 => true,
+        5..=6 | 9 => true,
         _ => false,
     }
 }
