@@ -1,5 +1,6 @@
--- The tables of a line's gates. Both functions look only at how many inputs are 1: those of the literals, which the row tells, and the
--- known ones, of which there is one where the constant's bit is 1. So a table is computed over all rows of up to three literals.
+-- The tables of a line's gates. Two functions look only at how many inputs are 1: those of the literals, which the row tells, and the
+-- known ones, of which there is one where the constant's bit is 1. So a table is computed over all rows of up to three literals. The
+-- borrow's are computed over the rows of its own inputs.
 use Prim.Native.Nat.{ℕ, zero, suc, _+_, _/_, _^_, _≤_, _<_}
 use native.Mathlib.Nat.{pow-suc, div-lt-iff-lt-mul}
 use native.Mathlib.Numerals.{add-one}
@@ -8,6 +9,7 @@ use mathlib.Core.Path.{_≡_, refl, ap, subst, _∙_}
 use mathlib.Core.Bool.{Bool, true, false, cond, xor, Bool·beq}
 use mathlib.Core.List.{List, [], _∷_}
 use lib.Dec.{leb}
+use lib.IntN.{ℤ}
 use lib.ListN.{length}
 use Rattle.words.specs.Words.{bit, value}
 use Rattle.words.specs.Below.{all, count}
@@ -16,7 +18,7 @@ use Rattle.words.proofs.Bits.{bit-suc, false-xor}
 use Rattle.words.proofs.TruthTables.{by-table}
 use Rattle.cnf.specs.Gates.{Input, literals, valuesIn}
 use Rattle.cnf.specs.Gates.Input.{known, literal}
-use Rattle.clause_lists.specs.Kinds.{parity, ones, twoOrMore}
+use Rattle.clause_lists.specs.Kinds.{parity, ones, twoOrMore, lessThan}
 use Rattle.bit_gates.specs.Gates.{IsTable}
 
 -- how many of the known inputs are 1
@@ -85,3 +87,17 @@ module _ (is : List Input) (b : Bool) (e : knownOnes is ≡ value b) (few : leng
       test : (b : Bool) → all 4 (hasValues (leb 2) (λ b. cond b 0b1111_1110 0b1110_1000) b) ≡ true
       test true = refl
       test false = refl
+
+-- ---- the borrow, in bit 0 and above it
+
+pub less-lowest : (a b : ℤ) → IsTable lessThan (literal a ∷ literal b ∷ known false ∷ []) 0b0010
+unfolding all bit lessThan ones valuesIn literals
+less-lowest a b row less =
+    by-table 0 (lessThan (bit row 2 ∷ bit row 1 ∷ false ∷ [])) (bit 0b0010 (row / 2))
+    (all-true 8 (λ row. Bool·beq (lessThan (bit row 2 ∷ bit row 1 ∷ false ∷ [])) (bit 0b0010 (row / 2))) refl row less)
+
+pub less-above : (a b c : ℤ) → IsTable lessThan (literal a ∷ literal b ∷ literal c ∷ []) 0b1000_1110
+unfolding all bit lessThan ones valuesIn literals
+less-above a b c row less =
+    by-table 0 (lessThan (bit row 3 ∷ bit row 2 ∷ bit row 1 ∷ [])) (bit 0b1000_1110 (row / 2))
+    (all-true 16 (λ row. Bool·beq (lessThan (bit row 3 ∷ bit row 2 ∷ bit row 1 ∷ [])) (bit 0b1000_1110 (row / 2))) refl row less)

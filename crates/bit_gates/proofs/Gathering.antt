@@ -14,7 +14,8 @@ use Rattle.cnf.specs.Gates.{Input, literals}
 use Rattle.cnf.specs.Gates.Input.{known, literal}
 use Rattle.gate_writer.specs.Tables.{Small}
 use Rattle.gate_writer.proofs.Signs.{same}
-use Rattle.clause_lists.specs.Kinds.{Carries, someCarries, gates, hasCarries, carryInputs}
+use Rattle.clause_lists.specs.Kinds.{Taken, isFilled, Carries, someCarries, gates, hasCarries, takenInput, carryInputs}
+use Rattle.clause_lists.specs.Kinds.Taken.{bitAt, noBit}
 use Rattle.clause_lists.specs.Kinds.Carries.{none, made}
 use Rattle.run_literals.specs.declared.LineRun.{LineRun}
 use Rattle.bit_gates.specs.declared.inputs.Inputs.{Inputs}
@@ -65,6 +66,12 @@ literals-append (literal l ∷ is) js = ap (λ (ls : List ℤ). l ∷ ls) (liter
 pub one-literal : {i : Input} {l m : ℤ} → i ≡ literal l → m ≡ l → m ∷ [] ≡ literals (i ∷ [])
 unfolding literals
 one-literal {m = m} e d = ap (λ (z : ℤ). z ∷ []) d ∙ ap (λ (j : Input). literals (j ∷ [])) (sym e)
+
+-- a filled zero is no literal
+pub no-literal : (p : Taken) (bits : ℕ → ℤ) → isFilled p ≡ true → literals (takenInput p bits ∷ []) ≡ []
+unfolding literals
+no-literal (bitAt i) bits e = absurd (false≢true e)
+no-literal noBit bits e = refl
 
 module _ (carry : ℕ → ℤ) where
   some-enters : (cs : Carries) (i : ℕ) → someCarries cs ≡ true → (i ≡ 0 → ⊥) → carry i ∷ [] ≡ literals (carryInputs cs carry i)

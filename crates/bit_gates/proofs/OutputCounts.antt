@@ -36,3 +36,12 @@ module _ (r : LineRun) (i : ℕ) where
 
   pub one-carried : carries ≡ true → i < r .width → (i + 1 ≡ r .width → ⊥) → 2 ≡ outputsOf r i
   one-carried e less n = rw (e, lt-ltb (i + 1) (r .width) (omega arith))
+
+  -- an output after the first is the next carry
+  pub some-carried : (j : ℕ) → j < outputsOf r i → (j ≡ 0 → ⊥) → carries ≡ true
+  some-carried j less n = at (ltb (i + 1) (r .width)) carries less
+    where
+      at : (b c : Bool) → j < cond (b && c) 2 1 → c ≡ true
+      at true true l = refl
+      at true false l = absurd (n (omega arith))
+      at false c l = absurd (n (omega arith))

@@ -1,7 +1,8 @@
 -- The tables of a run's gates: a bit has at most three literals, and its constant's bit is the only known input that can be 1.
 use Prim.Native.Nat.{ℕ, zero, suc, _+_, _≤_}
 use native.Mathlib.Omega.{arith}
-use mathlib.Core.Path.{_≡_, refl, ap, _∙_}
+use mathlib.Core.Path.{_≡_, refl, sym, ap, subst, _∙_}
+use mathlib.Core.Logic.{_≢_}
 use mathlib.Core.Bool.{Bool, true, false, cond}
 use mathlib.Core.List.{List, [], _∷_, _++_}
 use lib.IntN.{ℤ}
@@ -9,17 +10,18 @@ use lib.ListN.{length}
 use Rattle.words.specs.Words.{bit, value}
 use Rattle.words.proofs.Bits.{bit-none}
 use Rattle.trail.specs.Kinds.{Kind, kindOf, usesSecond, usesConstant}
-use Rattle.trail.proofs.KindNumbers.{known-within}
+use Rattle.trail.proofs.KindNumbers.{at-key, known-within}
 use Rattle.cnf.specs.Gates.{Input, literals}
 use Rattle.cnf.specs.Gates.Input.{known, literal}
-use Rattle.clause_lists.specs.Kinds.{Taken, Carries, gates, takenInput, carryInputs, parity, twoOrMore}
+use Rattle.clause_lists.specs.Kinds.{Taken, Carries, gates, hasCarries, takenInput, carryInputs, inputsAs, parity}
 use Rattle.clause_lists.specs.Kinds.Taken.{bitAt, noBit}
 use Rattle.clause_lists.specs.Kinds.Carries.{none, made}
 use Rattle.run_literals.specs.declared.LineRun.{LineRun}
 use Rattle.run_literals.specs.Run.{wordIn, carryIn, ProperRun}
-use Rattle.bit_gates.specs.Gates.{othersIn, carriesIn, inputsIn, IsTable}
-use Rattle.run_literals.proofs.KindRows.{no-constant}
-use Rattle.bit_gates.proofs.GateTables.{knownOnes, parity-table, carry-table}
+use Rattle.bit_gates.specs.Gates.{othersIn, carriesIn, inputsIn, functionAs, functionOf, IsTable}
+use Rattle.run_literals.proofs.KindRows.{no-constant, carries-add}
+use Rattle.bit_gates.proofs.GateTables.{knownOnes, parity-table, carry-table, less-lowest, less-above}
+use Rattle.bit_gates.proofs.OutputCounts.{at-first, at-later}
 
 -- ---- how many literals, and how many known ones, each input adds
 
@@ -102,5 +104,28 @@ module _ {r : LineRun} (proper : ProperRun r) (i : ℕ) where
   pub result-is : (one : Bool) → bit (r .line .constant) i ≡ one → IsTable parity (inputsIn r i) (cond one 0b0110_1001 0b1001_0110)
   result-is one e = parity-table (inputsIn r i) one (known-ones ∙ ap value e) few-literals
 
-  pub carry-is : (one : Bool) → bit (r .line .constant) i ≡ one → IsTable twoOrMore (inputsIn r i) (cond one 0b1111_1110 0b1110_1000)
-  carry-is one e = carry-table (inputsIn r i) one (known-ones ∙ ap value e) few-literals
+  pub carry-is : hasCarries q ≡ true → r .line .kind ≢ 9 → (one : Bool) → bit (r .line .constant) i ≡ one
+      → IsTable (functionOf r 1) (inputsIn r i) (cond one 0b1111_1110 0b1110_1000)
+  carry-is some other one e =
+      subst (λ (cs : Carries). IsTable (functionAs cs 1) (inputsIn r i) (cond one 0b1111_1110 0b1110_1000))
+      (sym (carries-add (r .line .kind) some other))
+      (carry-table (inputsIn r i) one (known-ones ∙ ap value e) few-literals)
+
+-- ---- the borrow
+
+abbrev IsNext : LineRun → ℕ → ℕ → Kind → Type 0
+IsNext r i table q = IsTable (functionAs (gates q .carries) 1) (inputsAs q (r .width) (r .line) (wordIn r) (carryIn r) i) table
+
+pub borrow-lowest : (r : LineRun) (i : ℕ) → r .line .kind ≡ 9 → i ≡ 0 → IsNext r i 0b0010 (kindOf (r .line .kind))
+unfolding kindOf
+borrow-lowest r i e lowest =
+    at-key (IsNext r i 0b0010) e
+    (at-first (λ i. IsNext r i 0b0010 (kindOf 9)) i lowest
+    (less-lowest (wordIn r (r .line .first) 0) (wordIn r (r .line .second) 0)))
+
+pub borrow-above : (r : LineRun) (i : ℕ) → r .line .kind ≡ 9 → (i ≡ 0 → ⊥) → IsNext r i 0b1000_1110 (kindOf (r .line .kind))
+unfolding kindOf
+borrow-above r i e above =
+    at-key (IsNext r i 0b1000_1110) e
+    (at-later (λ i. IsNext r i 0b1000_1110 (kindOf 9)) i above
+    (λ i. less-above (wordIn r (r .line .first) (suc i)) (wordIn r (r .line .second) (suc i)) (carryIn r (suc i))))

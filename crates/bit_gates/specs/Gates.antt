@@ -1,7 +1,7 @@
 -- What the inner functions that write a line's list cite: the inputs and outputs of one bit of a run, as the code gathers them.
 use Prim.Native.Nat.{ℕ, zero, suc, _+_, _/_, _≤_, _<_, _^_}
 use mathlib.Core.Path.{_≡_}
-use mathlib.Core.Bool.{Bool, _&&_, cond}
+use mathlib.Core.Bool.{Bool, false, _&&_, cond}
 use mathlib.Core.List.{List}
 use lib.Dec.{ltb}
 use lib.ListN.{length, take}
@@ -10,7 +10,8 @@ use Rattle.words.specs.Words.{bit}
 use Rattle.trail.specs.Kinds.{kindOf}
 use Rattle.cnf.specs.Gates.{Input, literals, valuesIn}
 use Rattle.gate_writer.specs.Tables.{Small}
-use Rattle.clause_lists.specs.Kinds.{parity, twoOrMore, gates, hasCarries, otherInputs, carryInputs}
+use Rattle.clause_lists.specs.Kinds.{parity, Carries, gates, hasCarries, otherInputs, carryInputs}
+use Rattle.clause_lists.specs.Kinds.Carries.{none, made}
 use Rattle.clause_lists.specs.Lists.{inputs}
 use Rattle.run_literals.specs.declared.LineRun.{LineRun}
 use Rattle.run_literals.specs.Run.{wordIn, carryIn}
@@ -32,9 +33,14 @@ inputsIn r i = inputs (r .width) (r .word) (r .line) (wordIn r) (carryIn r) i
 abbrev pub outputsOf : LineRun → ℕ → ℕ
 outputsOf r i = cond (ltb (i + 1) (r .width) && hasCarries (kindOf (r .line .kind))) 2 1
 
-abbrev pub functionOf : ℕ → List Bool → Bool
-functionOf zero = parity
-functionOf (suc j) = twoOrMore
+-- what makes them of the inputs; without carries there is no output 1, written 0
+abbrev pub functionAs : Carries → ℕ → List Bool → Bool
+functionAs cs zero = parity
+functionAs none (suc j) = λ bs. false
+functionAs (made next value) (suc j) = next
+
+abbrev pub functionOf : LineRun → ℕ → List Bool → Bool
+functionOf r j = functionAs (gates (kindOf (r .line .kind)) .carries) j
 
 abbrev pub outputIn : LineRun → ℕ → ℕ → ℤ
 outputIn r i zero = wordIn r (r .word) i

@@ -9,6 +9,7 @@ use run_literals::kinds::has_carries;
 use run_literals::kinds::uses_second;
 use run_literals::literals::carry_literal;
 use run_literals::literals::first_literal;
+use run_literals::literals::is_filled;
 use run_literals::literals::second_literal;
 
 // The first `count` of `lits`, in order. There is a place for the output behind three inputs.
@@ -27,7 +28,7 @@ pub fn gather(run: LineRun, i: u32) -> Inputs
     with_carry(operands, run, i)
 }
 
-// The bit that the first operand gives.
+// The bit that the first operand gives, unless a zero is filled in.
 fn first_input(run: LineRun, i: u32) -> Inputs
     requires { ⌜ ProperRun run × (i < run .width) ⌝ }
     ensures { λ r. ⌜ Gathers 1 (literals (takenIn run i ∷ [])) r ⌝ }
@@ -36,7 +37,11 @@ fn first_input(run: LineRun, i: u32) -> Inputs
         lits: [0; 4],
         count: 0,
     };
-    with(none, first_literal(run, i))
+    if is_filled(run, i) {
+        none
+    } else {
+        with(none, first_literal(run, i))
+    }
 }
 
 // The second operand's too, where the kind has one.

@@ -36,8 +36,8 @@ pub fn output_literal(run: LineRun, i: u32, j: u32) -> i32
 
 // The table by which it is tied to the inputs.
 pub fn output_table(run: LineRun, i: u32, j: u32) -> u32
-    requires { ⌜ ProperRun run × (i < run .width) ⌝ }
-    ensures { λ r. ⌜ IsTable (functionOf j) (inputsIn run i) r ⌝ }
+    requires { ⌜ ProperRun run × (i < run .width) × (j < outputsOf run i) ⌝ }
+    ensures { λ r. ⌜ IsTable (functionOf run j) (inputsIn run i) r ⌝ }
 {
     if j == 0 {
         result_table(run, i)

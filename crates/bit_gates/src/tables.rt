@@ -1,9 +1,13 @@
 // The tables of a line's gates: bit t of a table is the output at the inputs' row t, the first input as highest bit. A constant's
-// bit and the carry into bit 0 are no literals: they choose the table. With fewer than three literals its lower rows serve.
+// bit and the carry into bit 0 are no literals: they choose the table. Where it is all one which inputs are 1, the lower rows of a
+// table serve for fewer than three literals.
+ghost use mathlib.Core.Path.{_≡_};
+ghost use mathlib.Core.Bool.{true};
 ghost use Prim.Native.Nat.{_<_};
-ghost use Rattle.clause_lists.specs.Kinds.{parity, twoOrMore};
+ghost use Rattle.trail.specs.Kinds.{kindOf};
+ghost use Rattle.clause_lists.specs.Kinds.{parity, hasCarries};
 ghost use Rattle.run_literals.specs.Run.{ProperRun};
-ghost use Rattle.bit_gates.specs.Gates.{inputsIn, IsTable};
+ghost use Rattle.bit_gates.specs.Gates.{inputsIn, functionOf, IsTable};
 use arithmetic::bit;
 use run_literals::LineRun;
 
@@ -15,6 +19,10 @@ const ONE_OR_MORE: u32 = 0b1111_1110;
 
 const TWO_OR_MORE: u32 = 0b1110_1000;
 
+const LESS_THAN_TWO: u32 = 0b1000_1110;
+
+const LESS_THAN_ONE: u32 = 0b0010;
+
 // The result's bit i: the XOR of its inputs.
 pub(crate) fn result_table(run: LineRun, i: u32) -> u32
     requires { ⌜ ProperRun run × (i < run .width) ⌝ }
@@ -24,15 +32,28 @@ pub(crate) fn result_table(run: LineRun, i: u32) -> u32
     if bit(line.constant, i) { EVEN } else { ODD }
 }
 
-// The carry out of bit i: whether two or more of the inputs are 1.
+// The carry out of bit i: whether two or more of the inputs are 1. A borrow: whether the first is less than the others together, of
+// which there are two above bit 0.
 pub(crate) fn carry_table(run: LineRun, i: u32) -> u32
-    requires { ⌜ ProperRun run × (i < run .width) ⌝ }
-    ensures { λ r. ⌜ IsTable twoOrMore (inputsIn run i) r ⌝ }
+    requires { ⌜ ProperRun run × (i < run .width) × (hasCarries (kindOf (run .line .kind)) ≡ true) ⌝ }
+    ensures { λ r. ⌜ IsTable (functionOf run 1) (inputsIn run i) r ⌝ }
 {
     let line = run.line;
-    if bit(line.constant, i) {
-        ONE_OR_MORE
-    } else {
-        TWO_OR_MORE
+    let kind = line.kind;
+    match kind {
+        9 => {
+            if i == 0 {
+                LESS_THAN_ONE
+            } else {
+                LESS_THAN_TWO
+            }
+        }
+        _ => {
+            if bit(line.constant, i) {
+                ONE_OR_MORE
+            } else {
+                TWO_OR_MORE
+            }
+        }
     }
 }

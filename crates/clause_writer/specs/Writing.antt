@@ -14,7 +14,7 @@ use Rattle.bit_gates.specs.Gates.{inputsIn, functionOf, outputIn, gathered}
 -- ---- the clauses of an output, those of bit i and those of all bits
 
 abbrev pub clausesOfOutput : LineRun → ℕ → ℕ → List (List ℤ)
-clausesOfOutput r i j = gate (functionOf j) (inputsIn r i) (outputIn r i j)
+clausesOfOutput r i j = gate (functionOf r j) (inputsIn r i) (outputIn r i j)
 
 abbrev pub clausesOfBit : LineRun → ℕ → List (List ℤ)
 clausesOfBit r i = bitClauses (r .width) (r .word) (r .line) (wordIn r) (carryIn r) i
