@@ -7,6 +7,7 @@ use borrow.Author.Needs.{needs}
 use Rattle.words.specs.Below.{total}
 use Rattle.clause_lists.specs.Lists.{lineClauses}
 use Rattle.sheet.specs.Fields.{trailOf}
+use Rattle.sheet.proofs.WellFormed.{line-at-right}
 use Rattle.clause_sizes.proofs.SheetCounts.{total-start, total-more, clauses-are, clauses-upto, clauses-all}
 use Rattle.clause_sizes.proofs.counting.clauses_of_lines.Statement.{statement}
 use Rattle.clause_sizes.proofs.counting.clauses_of_lines.Tie as tie
@@ -24,7 +25,10 @@ line-at-requires : tie.Need-line-at-requires Inv-loop μ-loop
 line-at-requires c κs = (c .before .before .before .pre, omega arith)
 
 list-size-requires : tie.Need-list-size-requires Inv-loop μ-loop
-list-size-requires c κs = search needs
+list-size-requires c κs =
+    let start = c .before .before .before .before in
+    let k = c .before .before .loop .k in
+    (omega arith, omega arith, (_, line-at-right _ _ (start .pre) k (omega arith) (c .line-at .ensures)))
 
 add-sum : tie.Need-add-sum Inv-loop μ-loop
 add-sum c =

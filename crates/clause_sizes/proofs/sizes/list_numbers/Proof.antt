@@ -1,5 +1,7 @@
 -- The list is as long as its gates make it.
+use native.Mathlib.Omega.{arith}
 use borrow.Author.Needs.{needs}
+use Rattle.sheet.proofs.WellFormed.{line-at-right}
 use Rattle.clause_sizes.proofs.SheetCounts.{numbers-are}
 use Rattle.clause_sizes.proofs.sizes.list_numbers.Statement.{statement}
 use Rattle.clause_sizes.proofs.sizes.list_numbers.Tie as tie
@@ -8,7 +10,9 @@ line-at-requires : tie.Need-line-at-requires
 line-at-requires c κs = search needs
 
 list-size-requires : tie.Need-list-size-requires
-list-size-requires c κs = search needs
+list-size-requires c κs =
+    let start = c .before .before in
+    (omega arith, omega arith, (_, line-at-right _ _ (start .pre .0) (start .args .k) (start .pre .1) (c .line-at .ensures)))
 
 returns : tie.Need-returns
 returns c =

@@ -7,7 +7,7 @@ use borrow.Author.Needs.{needs}
 use Rattle.trail.specs.declared.Line.{Line}
 use Rattle.trail.specs.Kinds.{kindOf, usesSecond}
 use Rattle.clause_lists.specs.Kinds.{hasCarries}
-use Rattle.clause_lists.specs.Sizes.{gatesAs, gateCounts, sizeOf, clausesOfGate, numbersOfGate}
+use Rattle.clause_lists.specs.Sizes.{filledBits, gatesAs, gateCounts, sizeOf, clausesOfGate, numbersOfGate}
 use Rattle.clause_sizes.specs.declared.sizes.ListSize.{ListSize}
 use Rattle.clause_sizes.proofs.sizes.list_size.Statement.{statement}
 use Rattle.clause_sizes.proofs.sizes.list_size.Tie as tie
@@ -15,7 +15,7 @@ use Rattle.clause_sizes.proofs.sizes.list_size.Tie as tie
 -- the size of a line whose kind is known to have these two or not
 sized : (n : ℕ) (l : Line) (second carries : Bool) {s t : Bool} (r : ListSize) → s ≡ usesSecond (kindOf (l .kind)) → s ≡ second
     → t ≡ hasCarries (kindOf (l .kind)) → t ≡ carries
-    → (r .clauses ≡ sizeOf clausesOfGate (gatesAs second carries n)) × (r .numbers ≡ sizeOf numbersOfGate (gatesAs second carries n))
+    → (r .clauses ≡ sizeOf clausesOfGate (gatesAs second carries n (filledBits n l))) × (r .numbers ≡ sizeOf numbersOfGate (gatesAs second carries n (filledBits n l)))
     → (r .clauses ≡ sizeOf clausesOfGate (gateCounts n l)) × (r .numbers ≡ sizeOf numbersOfGate (gateCounts n l))
 sized n l second carries r a b c d e =
     let uses : usesSecond (kindOf (l .kind)) ≡ second = sym a ∙ b in
@@ -73,17 +73,28 @@ returns-3 c =
     sized (a .n) (a .line) false true (c .of-gates3 .result) (c .before .before .before .before .uses-second .ensures) (c .before .before .before .if1 .left)
     (c .before .before .has-carries2 .ensures) (c .before .if3 .taken) (omega (arith, c .of-gates3 .ensures .0), omega (arith, c .of-gates3 .ensures .1))
 
+filled-bits-requires : tie.Need-filled-bits-requires
+filled-bits-requires c κs = c .before .before .before .before .pre .2
+
 mul-of-gates-4 : tie.Need-mul-of-gates-4
 mul-of-gates-4 c = search needs
+
+sub-of-gates-3 : tie.Need-sub-of-gates-3
+sub-of-gates-3 c = search needs
+
+mul-of-gates-5 : tie.Need-mul-of-gates-5
+mul-of-gates-5 c = search needs
 
 of-gates-requires-4 : tie.Need-of-gates-requires-4
 of-gates-requires-4 c κs = search needs
 
 returns-4 : tie.Need-returns-4
 returns-4 c =
-    let a = c .before .before .before .before .before .args in
-    sized (a .n) (a .line) false false (c .of-gates4 .result) (c .before .before .before .before .uses-second .ensures) (c .before .before .before .if1 .left)
-    (c .before .before .has-carries2 .ensures) (c .before .if3 .left) (omega (arith, c .of-gates4 .ensures .0), omega (arith, c .of-gates4 .ensures .1))
+    let a = c .before .before .before .before .before .before .args in
+    let filled = c .before .filled-bits .ensures .0 in
+    sized (a .n) (a .line) false false (c .of-gates4 .result) (c .before .before .before .before .before .uses-second .ensures) (c .before .before .before .before .if1 .left)
+    (c .before .before .before .has-carries2 .ensures) (c .before .before .if3 .left)
+    (rw (← filled) (omega (arith, c .of-gates4 .ensures .0), omega (arith, c .of-gates4 .ensures .1)))
 
 pub list-size-spec : {M : Type 1} → statement M
 list-size-spec =
@@ -103,6 +114,9 @@ list-size-spec =
     sub-of-gates-2
     of-gates-requires-3
     returns-3
+    filled-bits-requires
     mul-of-gates-4
+    sub-of-gates-3
+    mul-of-gates-5
     of-gates-requires-4
     returns-4)

@@ -48,7 +48,9 @@ output-literal-requires : tie.Need-output-literal-requires Inv-loop μ-loop
 output-literal-requires c κs = search needs
 
 output-table-requires : tie.Need-output-table-requires Inv-loop μ-loop
-output-table-requires c κs = search needs
+output-table-requires c κs =
+    let start = c .before .before .before .before .before in
+    (start .pre .0, start .pre .1, omega (arith, c .before .before .before .output-count .ensures))
 
 put-output-requires : tie.Need-put-output-requires Inv-loop μ-loop
 put-output-requires c κs =
