@@ -1,4 +1,5 @@
--- Sheets by computation: with one byte wrong they are refused with their number and place. So are lines of kinds 7 to 9 with a field wrong.
+-- Sheets by computation: with one byte wrong they are refused with their number and place. So are lines of kinds 7 to 9 with a field
+-- wrong.
 use mathlib.Core.Path.{_≡_, refl}
 use mathlib.Core.List.{List, [], _∷_, _++_, map}
 use Prim.Native.Nat.{ℕ}
