@@ -1,4 +1,4 @@
-// Questions 9 to 15, of each line (document 01, "Questions, in order").
+// Questions 9 to 15, of each line (document 01, "Questions, in order"; document 02, W-201).
 ghost use mathlib.Core.Path.{_≡_};
 ghost use Prim.Native.Nat.{_<_, _≤_};
 ghost use mathlib.Core.Bool.{_&&_};
@@ -26,30 +26,30 @@ fn operands_earlier(line: Record, word: usize) -> bool
     }
     let kind = line.kind;
     match kind {
-        1 | 5 => line.second < word,
+        1 | 5 | 9 => line.second < word,
         _ => true,
     }
 }
 
-// Whether the operands of kind 5 name different words.
+// Whether the operands of kinds 5 and 9 name different words.
 fn operands_differ(line: Record) -> bool
     ensures { λ r. ⌜ r ≡ operandsDiffer line ⌝ }
 {
     let kind = line.kind;
     match kind {
-        5 => line.first != line.second,
+        5 | 9 => line.first != line.second,
         _ => true,
     }
 }
 
-// Whether the amount of kinds 3 and 4 is from 1 to n - 1.
+// Whether the amount of kinds 3, 4, 7 and 8 is from 1 to n - 1.
 fn amount_right(line: Record, n: u32) -> bool
     requires { ⌜ 1 ≤ n ⌝ }
     ensures { λ r. ⌜ r ≡ amountRight line n ⌝ }
 {
     let kind = line.kind;
     match kind {
-        3..=4 => within(1, n as usize - 1, line.amount as usize),
+        3..=4 | 7..=8 => within(1, n as usize - 1, line.amount as usize),
         _ => true,
     }
 }
@@ -75,7 +75,7 @@ fn both_zero(a: u64, b: u64) -> bool
 
 // Whether the zero field and the fields that the kind does not use are zero.
 fn unused_zero(line: Record) -> bool
-    requires { ⌜ (1 ≤ line .kind) × (line .kind ≤ 6) ⌝ }
+    requires { ⌜ (1 ≤ line .kind) × (line .kind ≤ 9) ⌝ }
     ensures { λ r. ⌜ r ≡ unusedZero line ⌝ }
 {
     if line.zero != 0 {
@@ -83,8 +83,8 @@ fn unused_zero(line: Record) -> bool
     }
     let kind = line.kind;
     match kind {
-        1 | 5 => both_zero(line.amount as u64, line.constant),
-        3..=4 => both_zero(line.second as u64, line.constant),
+        1 | 5 | 9 => both_zero(line.amount as u64, line.constant),
+        3..=4 | 7..=8 => both_zero(line.second as u64, line.constant),
         _ => both_zero(line.amount as u64, line.second as u64),
     }
 }
@@ -95,7 +95,7 @@ fn record_stage(mode: Mode, header: Header, k: usize, line: Record) -> Reading
     ensures { λ r. ⌜ readingMeans r ≡ verdict (recordQuestions mode header k line) header ⌝ }
 {
     let n = header.width;
-    if !within(1, 6, line.kind as usize) {
+    if !within(1, 9, line.kind as usize) {
         return refused(9, k);
     }
     if !operands_earlier(line, header.inputs + k) {

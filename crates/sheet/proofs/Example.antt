@@ -1,4 +1,5 @@
--- Sheets by computation: with one byte wrong they are refused with their number and place.
+-- Sheets by computation: with one byte wrong they are refused with their number and place. So are lines of kinds 7 to 9 with a field
+-- wrong.
 use mathlib.Core.Path.{_≡_, refl}
 use mathlib.Core.List.{List, [], _∷_, _++_, map}
 use Prim.Native.Nat.{ℕ}
@@ -13,7 +14,8 @@ use Rattle.sheet.specs.Fields.{formOf, headerOf, trailOf, recordOf, reco
 use Rattle.sheet.specs.Checks.{checkOf}
 use Rattle.sheet.specs.Questions.{within, zeroBytes, lengthQuestions, checkQuestions, marked, linesRight, inputRight, headerQuestions, operandsEarlier, operandsDiffer, amountRight, constantRight, unusedZero, recordQuestions, lineQuestions, recordRest, blockRest, restQuestion, laterQuestions, questions, lineNumberQuestions, roomQuestions, startQuestions}
 use Rattle.sheet.specs.declared.Header.{Header}
-use Rattle.sheet.specs.declared.Mode.the-variants.{Seal}
+use Rattle.sheet.specs.declared.Record.{Record}
+use Rattle.sheet.specs.declared.Mode.the-variants.{Read, Seal}
 
 -- ---- one byte of a sheet set, and what is refused then
 
@@ -62,6 +64,45 @@ pub refusals : map (λ (c : Case). answer (set twoLines (c .position) (c .byte))
     ≡ map (λ (c : Case). refused (c .number) (c .place)) cases
 unfolding twoLines verdict within zeroBytes lengthQuestions checkQuestions marked linesRight inputRight headerQuestions operandsEarlier operandsDiffer amountRight constantRight unusedZero recordQuestions lineQuestions recordRest blockRest restQuestion laterQuestions questions all concat numberAt kindOf formOf recordOf recordPosition
 refusals = refl
+
+-- ---- one line, and its answer
+
+pub record LineCase : Type 0 where
+  pub line : Record
+  pub answer : Verdict ℕ
+
+-- a line by its kind, amount, operands and constant
+abbrev pub lineCase : ℕ → ℕ → ℕ → ℕ → ℕ → Verdict ℕ → LineCase
+lineCase k r x y c v = record {
+  line = record { kind = k; amount = r; first = x; second = y; zero = 0; constant = c; difference = 0 };
+  answer = v;
+}
+
+-- As line 1, which makes word 2 (document 02, W-201). No number past 9 is a kind. A shift, 7 or 8, is by 1, as words have two bits, and
+-- uses no second operand and no constant. A subtraction, 9, is of two different words before its own, and uses no amount and no
+-- constant.
+abbrev pub lineCases : List LineCase
+lineCases =
+    lineCase 10 0 0 0 0 (refused 9 1)
+    ∷ lineCase 7 1 0 0 0 (accepted 0)
+    ∷ lineCase 7 0 0 0 0 (refused 12 1)
+    ∷ lineCase 7 2 0 0 0 (refused 12 1)
+    ∷ lineCase 7 1 0 1 0 (refused 15 1)
+    ∷ lineCase 8 1 0 0 0 (accepted 0)
+    ∷ lineCase 8 0 0 0 0 (refused 12 1)
+    ∷ lineCase 8 2 0 0 0 (refused 12 1)
+    ∷ lineCase 8 1 0 0 1 (refused 15 1)
+    ∷ lineCase 9 0 0 1 0 (accepted 0)
+    ∷ lineCase 9 0 0 2 0 (refused 10 1)
+    ∷ lineCase 9 0 1 1 0 (refused 11 1)
+    ∷ lineCase 9 1 0 1 0 (refused 15 1)
+    ∷ lineCase 9 0 0 1 1 (refused 15 1)
+    ∷ []
+
+pub line-answers : map (λ (c : LineCase). verdict (recordQuestions Read (headerOf twoLines) 1 (c .line)) 0) lineCases
+    ≡ map (λ (c : LineCase). c .answer) lineCases
+unfolding twoLines verdict within operandsEarlier operandsDiffer amountRight constantRight unusedZero recordQuestions numberAt kindOf formOf
+line-answers = refl
 
 -- ---- checks
 

@@ -61,7 +61,7 @@ line-right mode h k r wide e =
     let zero-amount = and-eq-true-iff (usesAmount uses || eqb (r .amount) 0) _ .0 (zero .1) in
     let zero-second = and-eq-true-iff (usesSecond uses || eqb (r .second) 0) (usesConstant uses || eqb (r .constant) 0) .0 (zero-amount .1) in
     record {
-      kind-known = known (r .kind) (within-least 1 6 _ (kind .here)) (within-most 1 6 _ (kind .here));
+      kind-known = known (r .kind) (within-least _ _ _ (kind .here)) (omega (arith, within-most _ _ _ (kind .here)));
       first-earlier = ltb-true _ _ (operands .0);
       second-earlier = λ u. ltb-true _ _ (asked (usesSecond uses) (ltb (r .second) (h .inputs + k)) (operands .1) u);
       operands-differ = λ u f. differ-asked (asked (wantsDistinct uses) (not (eqb (r .first) (r .second))) (differ .here) u) f;

@@ -1,5 +1,5 @@
--- The questions of a sheet and of the calls on it (document 01, "Questions, in order"): each with its answer, its number and
--- its place.
+-- The questions of a sheet and of the calls on it (document 01, "Questions, in order", and for kinds 7 to 9 document 02, W-201):
+-- each with its answer, its number and its place.
 use Prim.Native.Nat.{ℕ, _+_, _*_, _/_, _%_, _-_}
 use mathlib.Core.Path.{_≡_}
 use mathlib.Core.List.{List, [], _∷_, _++_}
@@ -80,11 +80,11 @@ headerQuestions s h =
 unfoldable pub operandsEarlier : Record → ℕ → Bool
 operandsEarlier r word = ltb (r .first) word && (not (usesSecond (kindOf (r .kind))) || ltb (r .second) word)
 
--- for kind 5, the operands name different words
+-- for kinds 5 and 9, the operands name different words
 unfoldable pub operandsDiffer : Record → Bool
 operandsDiffer r = not (wantsDistinct (kindOf (r .kind))) || not (eqb (r .first) (r .second))
 
--- for kinds 3, 4, the amount is 1 to n - 1
+-- for kinds 3, 4, 7 and 8, the amount is 1 to n - 1
 unfoldable pub amountRight : Record → ℕ → Bool
 amountRight r n = not (usesAmount (kindOf (r .kind))) || within 1 (n - 1) (r .amount)
 
@@ -101,16 +101,16 @@ unusedZero r =
     && (usesConstant (kindOf (r .kind)) || eqb (r .constant) 0)))
 
 -- Place: the line.
--- Is the kind 1 to 6? 9
+-- Is the kind 1 to 9? 9
 -- Is each used operand an earlier word? 10
--- For kind 5, do the operands name different words? 11
--- For kinds 3, 4, is the amount 1 to n - 1? 12
+-- For kinds 5 and 9, do the operands name different words? 11
+-- For kinds 3, 4, 7 and 8, is the amount 1 to n - 1? 12
 -- For kinds 2, 6, is the constant below 2 ^ n? 13
 -- Is the difference below 2 ^ n? 14
 -- Are the record's zero field and unused fields zero? 15
 unfoldable pub recordQuestions : Mode → Header → ℕ → Record → List Question
 recordQuestions mode h k r =
-    ask (within 1 6 (r .kind)) 9 k
+    ask (within 1 9 (r .kind)) 9 k
     ∷ ask (operandsEarlier r (h .inputs + k)) 10 k
     ∷ ask (operandsDiffer r) 11 k
     ∷ ask (amountRight r (h .width)) 12 k

@@ -30,5 +30,5 @@ makes-word {n} {j} {l} w x y hx hy = at (kindOf (l .kind)) refl
     at addConstant e = sumModulo-lt n x (l .constant)
     at shiftsLeft e = shiftLeft-lt n (l .amount) x
     at shiftsRight e = shiftRight-lt n (l .amount) x hx
-    at subtractWords e = differenceModulo-lt n x y
+    at subtractWords e = differenceModulo-lt n _ _
     at unknown e = pow-pos n

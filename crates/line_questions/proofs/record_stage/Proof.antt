@@ -78,11 +78,11 @@ unfolding recordQuestions
 returns-6 c = search stage depth 24
 
 -- question 9 bounds the kind's number
-least : (k : ℕ) → within 1 6 k ≡ true → 1 ≤ k
-least k e = within-least 1 6 k e
+least : (k : ℕ) → within 1 9 k ≡ true → 1 ≤ k
+least k e = within-least 1 9 k e
 
-most : (k : ℕ) → within 1 6 k ≡ true → k ≤ 6
-most k e = within-most 1 6 k e
+most : (k : ℕ) → within 1 9 k ≡ true → k ≤ 9
+most k e = within-most 1 9 k e
 
 unused-zero-requires : tie.Need-unused-zero-requires
 unused-zero-requires c κs = (search (least, granted), search (most, granted))

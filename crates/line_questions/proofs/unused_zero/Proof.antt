@@ -6,10 +6,9 @@ use native.Mathlib.Omega.{arith}
 use borrow.Author.Tests.{eq-eqb}
 use borrow.Author.Needs.{needs}
 use lib.Dec.{eqb}
-use Prim.Native.Nat.{_≤_, _<_}
 use Rattle.trail.specs.Kinds.{Kind, kindOf, usesAmount, usesSecond, usesConstant}
-use Rattle.trail.proofs.KindNumbers.{at-keys, in-range, numbersWith, every-kind}
-use Rattle.trail.proofs.KindTests.{second-unused, amount-unused-below, amount-unused-above}
+use Rattle.trail.proofs.KindNumbers.{at-keys, numbersWith, with-number, every-kind}
+use Rattle.trail.proofs.KindTests.{second-unused, amount-used, amount-used-above, amount-unused}
 use Rattle.sheet.specs.Questions.{unusedZero}
 use Rattle.sheet.proofs.Testing.{testing}
 use Rattle.sheet.specs.declared.Record.{Record}
@@ -48,7 +47,7 @@ unfolding rest kindOf
 returns-2 c =
     let l = c .before .before .before .before .before .args .line in
     let zero = asks l (c .before .before .before .if1 .left) in
-    let is = at-keys (λ q. rest l q ≡ (eqb (l .amount) 0 && eqb (l .constant) 0)) (numbersWith usesSecond) (l .kind) (c .before .before .match .keys1) (refl, (refl, tt)) in
+    let is = at-keys (λ q. rest l q ≡ (eqb (l .amount) 0 && eqb (l .constant) 0)) (numbersWith usesSecond) (l .kind) (c .before .before .match .keys1) (refl, (refl, (refl, tt))) in
     c .both-zero .ensures ∙ sym (zero ∙ is)
 
 returns-3 : tie.Need-returns-3
@@ -56,9 +55,8 @@ unfolding rest kindOf
 returns-3 c =
     let l = c .before .before .before .before .before .before .args .line in
     let zero = asks l (c .before .before .before .before .if1 .left) in
-    let least : 3 ≤ l .kind = omega arith in
-    let most : l .kind < 5 = omega arith in
-    let is = in-range (λ q. rest l q ≡ (eqb (l .second) 0 && eqb (l .constant) 0)) least most (refl, (refl, tt)) in
+    let used : usesAmount (kindOf (l .kind)) ≡ true = ⊎-elim (λ w. amount-used (l .kind) (omega arith) (omega arith)) (λ w. amount-used-above (l .kind) (omega arith) (omega arith)) (c .before .if3 .came) in
+    let is = at-keys (λ q. rest l q ≡ (eqb (l .second) 0 && eqb (l .constant) 0)) (numbersWith usesAmount) (l .kind) (with-number usesAmount (l .kind) refl used) (refl, (refl, (refl, (refl, tt)))) in
     c .both-zero2 .ensures ∙ sym (zero ∙ is)
 
 returns-4 : tie.Need-returns-4
@@ -67,7 +65,8 @@ returns-4 c =
     let l = c .before .before .before .before .before .before .args .line in
     let zero = asks l (c .before .before .before .before .if1 .left) in
     let no-word = second-unused (l .kind) (c .before .before .before .match .rest .1) in
-    let no-amount = ⊎-elim (λ w. amount-unused-below (l .kind) (omega arith)) (λ w. amount-unused-above (l .kind) (omega arith)) (c .before .before .if2 .came) in
+    let outside = c .before .before .if2 .came in
+    let no-amount = amount-unused (l .kind) (λ h. ⊎-elim (λ w. omega arith) (⊎-elim (λ w. omega arith) (λ w. omega arith)) outside) (λ h. ⊎-elim (λ w. omega arith) (⊎-elim (λ w. omega arith) (λ w. omega arith)) outside) in
     let some = every-kind (λ q. usesSecond q || (usesAmount q || usesConstant q)) refl (l .kind) (omega arith) (omega arith) in
     let constant : usesConstant (kindOf (l .kind)) ≡ true = rw (no-word, no-amount) at some in
     c .both-zero3 .ensures ∙ sym (zero ∙ rw (no-word, no-amount, constant) (ap (λ t. eqb (l .amount) 0 && t) (and-true (eqb (l .second) 0))))

@@ -2,27 +2,56 @@
 use borrow.Author.Needs.{needs}
 use mathlib.Core.Bool.{true, cond}
 use mathlib.Core.Logic.{inl, inr}
-use mathlib.Core.Path.{_≡_, refl, _∙_}
-use Prim.Native.Nat.{_≤_}
+use mathlib.Core.Path.{_≡_, refl}
+use Prim.Native.Nat.{ℕ, _≤_, _<_}
 use native.Mathlib.Omega.{arith}
 use lib.Bits.{bitXor}
-use Rattle.words.specs.Words.{sumModulo, rotateLeft, rotateRight}
+use Rattle.words.specs.Words.{sumModulo}
+use Rattle.trail.specs.declared.Line.{Line}
 use Rattle.trail.specs.Kinds.{kindOf, usesSecond, usesAmount, makesAs, makes}
-use Rattle.trail.proofs.KindNumbers.{at-key, in-range, at-no-kind}
+use Rattle.trail.proofs.KindNumbers.{at-key, in-range, at-no-kind, lastKind}
 use Rattle.line_words.proofs.word_made.Statement.{statement}
 use Rattle.line_words.proofs.word_made.Tie as tie
+
+-- ---- an arm of one number, a
+
+-- asks for the line's amount if a's kind uses it,
+amount-at : {n k r a : ℕ} → (usesAmount (kindOf k) ≡ true → (1 ≤ r) × (r < n)) → k ≡ a → usesAmount (kindOf a) ≡ true
+    → (1 ≤ r) × (r < n)
+amount-at asked e used = asked (at-key (λ q. usesAmount q ≡ true) e used)
+
+-- and returns what a's kind makes
+made-at : (n : ℕ) (l : Line) (x y : ℕ) {w a : ℕ} → l .kind ≡ a → w ≡ makesAs (kindOf a) n l x y → w ≡ makes n l x y
+unfolding makes
+made-at n l x y {w} e made = at-key (λ q. w ≡ makesAs q n l x y) e made
+
+-- ---- the numbers that no arm has
+
+over : {a k : ℕ} → a ≤ k → (k ≡ a → ⊥) → a < k
+over least none = omega arith
 
 rotate-left-requires : tie.Need-rotate-left-requires
 unfolding kindOf
 rotate-left-requires c κs =
-    let amount = c .before .pre .3 (at-key (λ q. usesAmount q ≡ true) (c .match .keys1) refl) in
+    let amount = amount-at (c .before .pre .3) (c .match .keys1) refl in
     (c .before .pre .1, amount .0, amount .1, c .before .pre .2)
 
 rotate-right-requires : tie.Need-rotate-right-requires
 unfolding kindOf
 rotate-right-requires c κs =
-    let amount = c .before .pre .3 (at-key (λ q. usesAmount q ≡ true) (c .match .keys2) refl) in
+    let amount = amount-at (c .before .pre .3) (c .match .keys2) refl in
     (c .before .pre .1, amount .0, amount .1, c .before .pre .2)
+
+shift-left-requires : tie.Need-shift-left-requires
+unfolding kindOf
+shift-left-requires c κs = (c .before .pre .1, amount-at (c .before .pre .3) (c .match .keys3) refl .1)
+
+shift-right-requires : tie.Need-shift-right-requires
+unfolding kindOf
+shift-right-requires c κs = omega (arith, amount-at (c .before .pre .3) (c .match .keys4) refl .1)
+
+subtract-requires : tie.Need-subtract-requires
+subtract-requires c κs = search needs
 
 other-input-requires : tie.Need-other-input-requires
 other-input-requires c κs = search needs
@@ -34,22 +63,28 @@ add-requires : tie.Need-add-requires
 add-requires c κs = search needs
 
 returns : tie.Need-returns
-unfolding makes kindOf
-returns c =
-    let a = c .before .before .args in
-    c .rotate-left .ensures
-    ∙ at-key (λ q. rotateLeft (a .n) (a .line .amount) (a .x) ≡ makesAs q (a .n) (a .line) (a .x) (a .y)) (c .before .match .keys1) refl
+unfolding kindOf
+returns c = made-at _ _ _ _ (c .before .match .keys1) (c .rotate-left .ensures)
 
 returns-2 : tie.Need-returns-2
-unfolding makes kindOf
-returns-2 c =
-    let a = c .before .before .args in
-    c .rotate-right .ensures
-    ∙ at-key (λ q. rotateRight (a .n) (a .line .amount) (a .x) ≡ makesAs q (a .n) (a .line) (a .x) (a .y)) (c .before .match .keys2) refl
+unfolding kindOf
+returns-2 c = made-at _ _ _ _ (c .before .match .keys2) (c .rotate-right .ensures)
 
 returns-3 : tie.Need-returns-3
+unfolding kindOf
+returns-3 c = made-at _ _ _ _ (c .before .match .keys3) (c .shift-left .ensures)
+
+returns-4 : tie.Need-returns-4
+unfolding kindOf
+returns-4 c = made-at _ _ _ _ (c .before .match .keys4) (c .shift-right .ensures)
+
+returns-5 : tie.Need-returns-5
+unfolding kindOf
+returns-5 c = made-at _ _ _ _ (c .before .match .keys5) (c .subtract .ensures)
+
+returns-6 : tie.Need-returns-6
 unfolding makes kindOf
-returns-3 c =
+returns-6 c =
     let a = c .before .before .before .before .args in
     rw (c .other-input .ensures)
     (in-range
@@ -58,12 +93,12 @@ returns-3 c =
     (c .before .if2 .taken)
     (refl, (refl, tt)))
 
-returns-4 : tie.Need-returns-4
+returns-7 : tie.Need-returns-7
 unfolding makes kindOf
-returns-4 c =
+returns-7 c =
     let a = c .before .before .before .before .before .before .args in
     let rest = c .before .before .before .before .before .match .rest in
-    let least : 5 ≤ a .line .kind = omega (arith, rest .1, rest .0 .1) in
+    let least : 5 ≤ a .line .kind = over (over (c .before .before .before .if2 .left) (rest .0 .0 .0 .0 .1)) (rest .0 .0 .0 .1) in
     rw (c .add .ensures, c .before .other-input2 .ensures)
     (in-range
     (λ q. sumModulo (a .n) (a .x) (cond (usesSecond q) (a .y) (a .line .constant)) ≡ makesAs q (a .n) (a .line) (a .x) (a .y))
@@ -71,17 +106,19 @@ returns-4 c =
     (c .before .before .if3 .taken)
     (refl, (refl, tt)))
 
-returns-5 : tie.Need-returns-5
+returns-8 : tie.Need-returns-8
 unfolding makes
-returns-5 c =
+returns-8 c =
     let a = c .before .before .args in
     at-no-kind (λ q. 0 ≡ makesAs q (a .n) (a .line) (a .x) (a .y)) (inl (c .if1 .taken)) refl
 
-returns-6 : tie.Need-returns-6
+returns-9 : tie.Need-returns-9
 unfolding makes
-returns-6 c =
+returns-9 c =
     let a = c .before .before .before .before .args in
-    at-no-kind (λ q. 0 ≡ makesAs q (a .n) (a .line) (a .x) (a .y)) (inr (c .if3 .left)) refl
+    let rest = c .before .before .before .match .rest in
+    let past : lastKind < a .line .kind = over (over (over (c .if3 .left) (rest .0 .0 .1)) (rest .0 .1)) (rest .1) in
+    at-no-kind (λ q. 0 ≡ makesAs q (a .n) (a .line) (a .x) (a .y)) (inr past) refl
 
 pub word-made-spec : {M : Type 1} → statement M
 word-made-spec =
@@ -89,6 +126,9 @@ word-made-spec =
     (tie.spec
     rotate-left-requires
     rotate-right-requires
+    shift-left-requires
+    shift-right-requires
+    subtract-requires
     other-input-requires
     other-input-requires-2
     add-requires
@@ -97,4 +137,7 @@ word-made-spec =
     returns-3
     returns-4
     returns-5
-    returns-6)
+    returns-6
+    returns-7
+    returns-8
+    returns-9)
