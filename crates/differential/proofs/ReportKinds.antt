@@ -25,12 +25,12 @@ module _ (d : Differential) where
 -- a line that is not linear is given no difference
 abbrev pub isLinear : Reporting → Bool
 isLinear (linear given) = true
-isLinear twoWords = false
+isLinear (twoWords sum) = false
 isLinear constant = false
 isLinear none = false
 
 pub none-given : (p : Reporting) → isLinear p ≡ false → (d : Differential) → givenBy p d ≡ 0
 none-given (linear given) e d = absurd (true≢false e)
-none-given twoWords e d = refl
+none-given (twoWords sum) e d = refl
 none-given constant e d = refl
 none-given none e d = refl
