@@ -1,4 +1,4 @@
--- `report` goes by the kind's number: each arm has the report of that number's kind.
+-- `report` goes by the kind's number: each arm, in the order of the match, has the report of that number's kind.
 use borrow.Author.Needs.{needs}
 use mathlib.Core.Bool.{true}
 use mathlib.Core.Logic.{_≢_, inl, inr}
@@ -31,6 +31,22 @@ words-report-requires-2 c κs = search needs
 certain-if-requires : tie.Need-certain-if-requires
 certain-if-requires c κs = search needs
 
+-- the numbers below 9 that have no arm of their own are those of the linear kinds
+linear-number : (k : ℕ) → 1 ≤ k → k < 9 → k ≢ 5 → k ≢ 6 → isLinear (reporting (kindOf k)) ≡ true
+unfolding kindOf
+linear-number k least most not5 not6 = at (decLe k 4)
+  where
+    at : Dec (k ≤ 4) → isLinear (reporting (kindOf k)) ≡ true
+    at (yes low) =
+        in-range (λ q. isLinear (reporting q) ≡ true) {a = 1} {b = 5} least (omega arith) (refl, (refl, (refl, (refl, tt))))
+    at (no high) = in-range (λ q. isLinear (reporting q) ≡ true) {a = 7} {b = 9} (omega arith) most (refl, (refl, tt))
+
+returns-4 : tie.Need-returns-4
+returns-4 c =
+    let rest = c .before .before .before .match .rest in
+    c .certain-if .ensures
+    ∙ sym (linear-report _ (linear-number _ (c .before .before .if1 .left) (c .before .if2 .taken) (rest .0 .0 .1) (rest .0 .1)))
+
 returns : tie.Need-returns
 unfolding kindOf
 returns c =
@@ -47,22 +63,6 @@ unfolding kindOf
 returns-3 c =
     c .words-report2 .ensures
     ∙ sym (report-by _ (at-key (λ q. reporting q ≡ twoWords turningBack) (c .before .match .keys3) refl))
-
--- the numbers below 9 that have no arm of their own are those of the linear kinds
-linear-number : (k : ℕ) → 1 ≤ k → k < 9 → k ≢ 5 → k ≢ 6 → isLinear (reporting (kindOf k)) ≡ true
-unfolding kindOf
-linear-number k least most not5 not6 = at (decLe k 4)
-  where
-    at : Dec (k ≤ 4) → isLinear (reporting (kindOf k)) ≡ true
-    at (yes low) =
-        in-range (λ q. isLinear (reporting q) ≡ true) {a = 1} {b = 5} least (omega arith) (refl, (refl, (refl, (refl, tt))))
-    at (no high) = in-range (λ q. isLinear (reporting q) ≡ true) {a = 7} {b = 9} (omega arith) most (refl, (refl, tt))
-
-returns-4 : tie.Need-returns-4
-returns-4 c =
-    let rest = c .before .before .before .match .rest in
-    c .certain-if .ensures
-    ∙ sym (linear-report _ (linear-number _ (c .before .before .if1 .left) (c .before .if2 .taken) (rest .0 .0 .1) (rest .0 .1)))
 
 returns-5 : tie.Need-returns-5
 unfolding reportOf
