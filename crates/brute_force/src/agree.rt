@@ -12,11 +12,27 @@ pub fn agrees(d: Differential, bits: u32, report: LineReport, count: u64) -> boo
     let kind = line.kind;
     match report {
         LineReport::Impossible => count == 0,
-        LineReport::Certain => kind <= 4 && count == 1 << bits,
-        LineReport::Halves(weight) => kind == 5 && is_halved(bits, weight.0, count),
+        LineReport::Certain => is_linear(kind) && count == 1 << bits,
+        LineReport::Halves(weight) => is_sum(kind) && is_halved(bits, weight.0, count),
         LineReport::Counted(weight, chains, fitting) => {
             kind == 6 && fitting.0 == count && is_bounded(d.width, weight.0, chains, count)
         }
+    }
+}
+
+// XORs, rotations and shifts: the kinds that are certain or impossible.
+fn is_linear(kind: u32) -> bool {
+    match kind {
+        1..=4 | 7..=8 => true,
+        _ => false,
+    }
+}
+
+// Adding two words, or subtracting one: the kinds that are halves or impossible.
+fn is_sum(kind: u32) -> bool {
+    match kind {
+        5 | 9 => true,
+        _ => false,
     }
 }
 

@@ -9,18 +9,19 @@ use borrow.Author.Tests.{eq-eqb, ne-eqb}
 use lib.Dec.{eqb}
 use Rattle.words.proofs.Below.{count-zero→none}
 use Rattle.words.proofs.Pairs.{pairs-zero→none}
-use Rattle.trail.specs.Kinds.{kindOf}
+use Rattle.trail.specs.Kinds.{kindOf, makes}
 use Rattle.differential.specs.declared.Differential.{Differential}
 use Rattle.differential.specs.Fits.{fits, fitting, fittingPairs}
 use Rattle.differential.specs.TwoWords.{wordsImpossible, wordsWeight}
 use Rattle.differential.specs.Constant.{constantFits, chains}
 use Rattle.differential.specs.Weight.{constantWeight}
-use Rattle.differential.specs.Report.{impossible, halves, certainIf, wordsReport, constantReport, Reporting, reporting, reportBy, reportOf}
+use Rattle.differential.specs.Report.{impossible, halves, certainIf, wordsReport, constantReport, Addition, Reporting, reporting, reportBy, reportOf}
 use Rattle.differential.specs.Report.Reporting.{linear, twoWords, constant, none}
 use Rattle.differential.specs.Demand2.{Proper, CountedRight, RightReport, EveryReportIsRight}
 use Rattle.differential.proofs.Formula.{fits-constant, fitting-constant}
 use Rattle.differential.proofs.TwoWords.{pairs-number, weight-less}
 use Rattle.differential.proofs.Linear.{linear-fits}
+use Rattle.differential.proofs.Turning.{FitsAs}
 use Rattle.differential.proofs.KindRows.{says}
 use Rattle.differential.proofs.Weights.{constant-right}
 use Rattle.differential.proofs.RightReports.{impossible-right, certain-right, halves-right, counted-right}
@@ -42,22 +43,36 @@ module _ (d : Differential) (proper : Proper d) where
           (impossible-right d
           (λ x y hx hy. one-for-all x y hx hy ∙ ne-eqb (given d) (d .line .difference) (λ s. other (sym s))))
 
-  words-right : reporting (kindOf (d .line .kind)) ≡ twoWords
-      → RightReport d (wordsReport (d .width) (d .first) (d .second) (d .line .difference))
-  unfolding fittingPairs
-  words-right how =
-      at (wordsImpossible (d .width) (d .first) (d .second) (d .line .difference))
-      (pairs-number d how least (proper .line-right .difference-word))
+  words-right : {sum : Differential → Addition} → reporting (kindOf (d .line .kind)) ≡ twoWords sum
+      → RightReport d (wordsReport (d .width) (sum d .first) (sum d .second) (sum d .result))
+  unfolding fits fittingPairs
+  words-right {sum} how =
+      at (wordsImpossible n α β γ) (like .as-many ∙ pairs-number n α β γ least (like .result-word))
     where
-      w : ℕ
-      w = wordsWeight (d .width) (d .first) (d .second) (d .line .difference)
+      n : ℕ
+      n = d .width
 
-      least : 1 ≤ d .width
+      α : ℕ
+      α = sum d .first
+
+      β : ℕ
+      β = sum d .second
+
+      γ : ℕ
+      γ = sum d .result
+
+      w : ℕ
+      w = wordsWeight n α β γ
+
+      like : FitsAs d (makes n (d .line)) (sum d)
+      like = says d how proper
+
+      least : 1 ≤ n
       least = omega (arith, proper .width-least)
 
-      at : (t : Bool) → fittingPairs d ≡ cond t 0 (2 ^ (2 * d .width - w)) → RightReport d (cond t impossible (halves w))
-      at true pairs = impossible-right d (pairs-zero→none (d .width) (fits d) pairs)
-      at false pairs = halves-right d how w (weight-less (d .width) (d .first) (d .second) (d .line .difference) least) pairs
+      at : (t : Bool) → fittingPairs d ≡ cond t 0 (2 ^ (2 * n - w)) → RightReport d (cond t impossible (halves w))
+      at true pairs = impossible-right d (pairs-zero→none n (fits d) pairs)
+      at false pairs = halves-right d how w (weight-less n α β γ least) pairs
 
   constant-report-right : reporting (kindOf (d .line .kind)) ≡ constant
       → RightReport d (constantReport (d .width) (d .line .constant) (d .first) (d .line .difference) (fitting d))
@@ -94,6 +109,6 @@ every-report-is-right d proper = at (reporting (kindOf (d .line .kind))) refl
   where
     at : (p : Reporting) → reporting (kindOf (d .line .kind)) ≡ p → RightReport d (reportBy p d)
     at (linear given) how = linear-right d proper how
-    at twoWords how = words-right d proper how
+    at (twoWords sum) how = words-right d proper how
     at constant how = constant-report-right d proper how
     at none how = absurd (says d how proper)

@@ -5,9 +5,10 @@ use Prim.Native.Nat.{ℕ, _^_, _<_}
 use lib.Bits.{bitXor, xor-comm, xor-lt, xor-zero-r}
 use lib.Dec.{eqb}
 use lib.Pow.{pow-pos}
-use Rattle.words.specs.Words.{rotateLeft, rotateRight}
+use Rattle.words.specs.Words.{rotateLeft, rotateRight, shiftLeft, shiftRight}
 use Rattle.words.proofs.Bits.{bitXor-cancel, bitXor-interchange}
 use Rattle.words.proofs.Rotations.{rotateLeft-lt, rotateLeft-xor, rotateRight-lt, rotateRight-xor}
+use Rattle.words.proofs.Shifts.{shiftLeft-lt, shiftLeft-xor, shiftRight-lt, shiftRight-xor}
 use Rattle.trail.specs.Kinds.{kindOf, usesAmount, usesConstant, makes}
 use Rattle.trail.proofs.Makes.{makes-word}
 use Rattle.differential.specs.declared.Differential.{Differential}
@@ -19,6 +20,11 @@ pub record Linear (d : Differential) (word : ℕ → ℕ → ℕ) (g : ℕ) : Ty
   pub given-word : g < 2 ^ d .width
   pub gives : (x y : ℕ) → x < 2 ^ d .width → y < 2 ^ d .width
       → word (bitXor x (d .first)) (bitXor y (d .second)) ≡ bitXor (word x y) g
+
+-- an operation on words under which an XOR's result is the XOR of the results
+pub record KeepsXor (n : ℕ) (f : ℕ → ℕ) : Type 0 where
+  pub word : (x : ℕ) → x < 2 ^ n → f x < 2 ^ n
+  pub xor : (x u : ℕ) → x < 2 ^ n → u < 2 ^ n → f (bitXor x u) ≡ bitXor (f x) (f u)
 
 module _ {d : Differential} (proper : Proper d) where
   pub linear-fits : {g : ℕ} → Linear d (makes (d .width) (d .line)) g → (x y : ℕ) → x < 2 ^ d .width → y < 2 ^ d .width
@@ -54,21 +60,35 @@ module _ {d : Differential} (proper : Proper d) where
           (pow-pos (d .width))
           ∙ ap (bitXor (bitXor x k)) (xor-zero-r (d .first))
 
+  -- an operation that keeps XORs, on the first operand alone
+  first-alone : {f : ℕ → ℕ} → KeepsXor (d .width) f → Linear d (λ x y. f x) (f (d .first))
+  first-alone keeps = record {
+    given-word = keeps .word (d .first) (proper .first-word);
+    gives = λ x y hx hy. keeps .xor x (d .first) hx (proper .first-word);
+  }
+
+  abbrev n : ℕ
+  n = d .width
+
+  abbrev r : ℕ
+  r = d .line .amount
+
   module _ (used : usesAmount (kindOf (d .line .kind)) ≡ true) where
-    least : 0 < d .line .amount
+    least : 0 < r
     least = proper .line-right .amount-least used
 
-    most : d .line .amount < d .width
+    most : r < n
     most = proper .line-right .amount-most used
 
     pub rotate-left : Linear d (λ x y. rotateLeft (d .width) (d .line .amount) x) (rotateLeft (d .width) (d .line .amount) (d .first))
-    rotate-left = record {
-      given-word = rotateLeft-lt (d .width) (d .line .amount) (d .first) most (proper .first-word);
-      gives = λ x y hx hy. rotateLeft-xor (d .width) (d .line .amount) x (d .first) most hx (proper .first-word);
-    }
+    rotate-left = first-alone (record { word = λ x. rotateLeft-lt n r x most; xor = λ x u. rotateLeft-xor n r x u most })
 
     pub rotate-right : Linear d (λ x y. rotateRight (d .width) (d .line .amount) x) (rotateRight (d .width) (d .line .amount) (d .first))
-    rotate-right = record {
-      given-word = rotateRight-lt (d .width) (d .line .amount) (d .first) least most (proper .first-word);
-      gives = λ x y hx hy. rotateRight-xor (d .width) (d .line .amount) x (d .first) least most hx (proper .first-word);
-    }
+    rotate-right =
+        first-alone (record { word = λ x. rotateRight-lt n r x least most; xor = λ x u. rotateRight-xor n r x u least most })
+
+  pub shift-left : Linear d (λ x y. shiftLeft (d .width) (d .line .amount) x) (shiftLeft (d .width) (d .line .amount) (d .first))
+  shift-left = first-alone (record { word = λ x hx. shiftLeft-lt n r x; xor = λ x u hx hu. shiftLeft-xor n r x u })
+
+  pub shift-right : Linear d (λ x y. shiftRight (d .line .amount) x) (shiftRight (d .line .amount) (d .first))
+  shift-right = first-alone (record { word = shiftRight-lt n r; xor = shiftRight-xor n r })

@@ -10,7 +10,7 @@ use Rattle.words.proofs.Pairs.{pairs-none}
 use Rattle.trail.specs.Kinds.{kindOf}
 use Rattle.differential.specs.declared.Differential.{Differential}
 use Rattle.differential.specs.Fits.{fits, fitting, fittingPairs}
-use Rattle.differential.specs.Report.{impossible, certain, halves, counted, reporting}
+use Rattle.differential.specs.Report.{impossible, certain, halves, counted, Addition, reporting}
 use Rattle.differential.specs.Report.Reporting.{linear, twoWords, constant}
 use Rattle.differential.specs.Demand2.{CountedRight, RightReport}
 
@@ -27,7 +27,7 @@ module _ (d : Differential) where
     counted-fitting = λ e. absurd (omega arith);
     number-most = omega arith;
     linear-number = λ _ _. inl refl;
-    words-number = λ _. inl refl;
+    words-number = λ _ _. inl refl;
     constant-number = λ _. inl refl;
   }
 
@@ -48,14 +48,14 @@ module _ (d : Differential) where
     counted-fitting = λ e. absurd (omega arith);
     number-most = omega arith;
     linear-number = λ _ _. inr refl;
-    words-number = λ other. inl (cc);
+    words-number = λ _ other. inl (cc);
     constant-number = λ other. inl (cc);
   }
     where
       word : 0 < 2 ^ d .width
       word = pow-pos (d .width)
 
-  pub halves-right : reporting (kindOf (d .line .kind)) ≡ twoWords
+  pub halves-right : {sum : Differential → Addition} → reporting (kindOf (d .line .kind)) ≡ twoWords sum
       → (bits : ℕ) → bits < d .width → fittingPairs d ≡ 2 ^ (2 * d .width - bits) → RightReport d (halves bits)
   unfolding fittingPairs
   halves-right how bits less pairs = record {
@@ -68,7 +68,7 @@ module _ (d : Differential) where
     counted-fitting = λ e. absurd (omega arith);
     number-most = omega arith;
     linear-number = λ _ other. inl (cc);
-    words-number = λ _. inr refl;
+    words-number = λ _ _. inr refl;
     constant-number = λ other. inl (cc);
   }
 
@@ -86,6 +86,6 @@ module _ (d : Differential) where
     counted-fitting = λ _. refl;
     number-most = omega arith;
     linear-number = λ _ other. inl (cc);
-    words-number = λ other. inl (cc);
+    words-number = λ _ other. inl (cc);
     constant-number = λ _. inr refl;
   }

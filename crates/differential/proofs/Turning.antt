@@ -1,6 +1,7 @@
 -- Two operations on words that turn each other back, as addition and subtraction do: equally many pairs fit the one, with differences
--- α and β to γ, and the other, with γ and β to α. The first word of a pair is renamed, and the bits of a word play no part.
-use mathlib.Core.Path.{_≡_, sym, ap, ap₂, _∙_}
+-- α and β to γ, and the other, with γ and β to α. The first word of a pair is renamed, and the bits of a word play no part. So a
+-- subtraction costs what the addition costs that turns result and second word back into the first (document 02, W-201).
+use mathlib.Core.Path.{_≡_, refl, sym, ap, ap₂, _∙_}
 use mathlib.Core.Bool.{Bool, true}
 use Prim.Native.Nat.{ℕ, _^_, _<_}
 use borrow.Author.Tests.{eqb-true, eq-eqb}
@@ -12,6 +13,9 @@ use Rattle.words.proofs.Bijection.{Leads, equal-pairs}
 use Rattle.words.proofs.Pairs.{pairs}
 use Rattle.words.proofs.Sums.{sumModulo-lt}
 use Rattle.words.proofs.Subtraction.{differenceModulo-lt, difference-back, sum-back}
+use Rattle.differential.specs.declared.Differential.{Differential}
+use Rattle.differential.specs.Report.{Addition, ownAddition, turningBack}
+use Rattle.differential.specs.Demand2.{Proper}
 
 -- operand values x and y with differences α and β give results that differ by γ
 abbrev pub fitsBy : (ℕ → ℕ → ℕ) → ℕ → ℕ → ℕ → ℕ → ℕ → Bool
@@ -62,3 +66,24 @@ module _ {n : ℕ} {f g : ℕ → ℕ → ℕ} (turns : TurnsBack n f g) (α β 
 pub pairs-turned : {n : ℕ} {f g : ℕ → ℕ → ℕ} → TurnsBack n f g → TurnsBack n g f → (α β γ : ℕ) → α < 2 ^ n → γ < 2 ^ n
     → pairs n (fitsBy f α β γ) ≡ pairs n (fitsBy g γ β α)
 pairs-turned to from α β γ hα hγ = equal-pairs (λ y l. leads to α β γ hα y) (λ y l. leads from γ β α hγ y)
+
+-- ---- lines of two words
+
+-- as many pairs of operands fit a line that makes its words so as fit an addition of two words
+pub record FitsAs (d : Differential) (word : ℕ → ℕ → ℕ) (sum : Addition) : Type 0 where
+  pub result-word : sum .result < 2 ^ d .width
+  pub as-many : pairs (d .width) (fitsBy word (d .first) (d .second) (d .line .difference))
+      ≡ pairs (d .width) (fitsBy (sumModulo (d .width)) (sum .first) (sum .second) (sum .result))
+
+module _ {d : Differential} (proper : Proper d) where
+  pub sum-fits : FitsAs d (sumModulo (d .width)) (ownAddition d)
+  sum-fits = record { result-word = proper .line-right .difference-word; as-many = refl }
+
+  pub difference-fits : FitsAs d (differenceModulo (d .width)) (turningBack d)
+  difference-fits = record {
+    result-word = proper .first-word;
+    as-many =
+        pairs-turned (difference-turns (d .width)) (sum-turns (d .width)) (d .first) (d .second) (d .line .difference)
+        (proper .first-word)
+        (proper .line-right .difference-word);
+  }

@@ -14,14 +14,9 @@ use Rattle.words.proofs.Bits.{below-zero, below-suc}
 use Rattle.words.proofs.Below.{any-cong, any-shift, count-cong, count-le, count-shift}
 use Rattle.words.specs.Words.{majority}
 use Rattle.words.proofs.LowBits.{low, low-bit, bit-low-zero, bit-low-suc}
-use Rattle.words.proofs.Pairs.{pairs-cong}
-use Rattle.trail.specs.Kinds.{kindOf, makes}
-use Rattle.differential.specs.declared.Differential.{Differential}
-use Rattle.differential.specs.Fits.{fits, fittingPairs}
+use Rattle.words.proofs.Pairs.{pairs, pairs-cong}
 use Rattle.differential.specs.TwoWords.{allEqual, clashes, wordsImpossible, wordsWeight}
-use Rattle.differential.specs.Report.{reporting}
-use Rattle.differential.specs.Report.Reporting.{twoWords}
-use Rattle.differential.proofs.KindRows.{says}
+use Rattle.differential.proofs.Turning.{fitsBy}
 use Rattle.differential.proofs.BitSums.{both-cong-two}
 use Rattle.differential.proofs.AddingBits.{overBits, fitsFrom, ways, wrong, secondCarry, ways-low, ways-none, next-carries}
 
@@ -192,39 +187,31 @@ pub weight-less : (n α β γ : ℕ) → 1 ≤ n → wordsWeight n α β γ < n
 unfolding wordsWeight
 weight-less n α β γ h = omega (arith, count-le (n - 1) (λ i. not (allEqual (bit α i) (bit β i) (bit γ i))))
 
-module _ (d : Differential) (how : reporting (kindOf (d .line .kind)) ≡ twoWords) (least : 1 ≤ d .width) (word : d .line .difference < 2 ^ d .width)
-  where
-    fits-words : (x y : ℕ) → fits d x y ≡ fitsFrom (d .width) (d .first) (d .second) (d .line .difference) false false x y
-    unfolding fits fitsFrom sumModulo
-    fits-words x y =
-        ap₂ eqb (ap₂ bitXor (sum (bitXor x (d .first)) (bitXor y (d .second))) (sum x y)) (sym (mod-eq-of-lt word))
-      where
-        sum : (x y : ℕ) → makes (d .width) (d .line) x y ≡ (x + y + 0) % 2 ^ d .width
-        sum x y = says d how x y ∙ ap (λ (z : ℕ). z % 2 ^ d .width) (sym (add-zero (x + y)))
+module _ (n α β γ : ℕ) (least : 1 ≤ n) (word : γ < 2 ^ n) where
+  fits-sum : (x y : ℕ) → fitsBy (sumModulo n) α β γ x y ≡ fitsFrom n α β γ false false x y
+  unfolding fitsFrom sumModulo
+  fits-sum x y = ap₂ eqb (ap₂ bitXor (sum (bitXor x α) (bitXor y β)) (sum x y)) (sym (mod-eq-of-lt word))
+    where
+      sum : (x y : ℕ) → (x + y) % 2 ^ n ≡ (x + y + 0) % 2 ^ n
+      sum x y = ap (λ (z : ℕ). z % 2 ^ n) (sym (add-zero (x + y)))
 
-    -- the pairs that fit, times 2 ^ w, are all pairs; or there is none
-    pub pairs-rule : fittingPairs d * 2 ^ wordsWeight (d .width) (d .first) (d .second) (d .line .difference)
-        ≡ cond (wordsImpossible (d .width) (d .first) (d .second) (d .line .difference)) 0 (2 ^ (2 * d .width))
-    unfolding fittingPairs ways
-    pairs-rule =
-        ap (λ (z : ℕ). z * 2 ^ wordsWeight (d .width) (d .first) (d .second) (d .line .difference))
-        (pairs-cong (d .width) (fits d) (fitsFrom (d .width) (d .first) (d .second) (d .line .difference) false false) fits-words)
-        ∙ words-rule (d .width) (d .first) (d .second) (d .line .difference) least
+  -- the pairs that fit, times 2 ^ w, are all pairs; or there is none
+  pairs-rule : pairs n (fitsBy (sumModulo n) α β γ) * 2 ^ wordsWeight n α β γ ≡ cond (wordsImpossible n α β γ) 0 (2 ^ (2 * n))
+  unfolding ways
+  pairs-rule =
+      ap (λ (z : ℕ). z * 2 ^ wordsWeight n α β γ)
+      (pairs-cong n (fitsBy (sumModulo n) α β γ) (fitsFrom n α β γ false false) fits-sum)
+      ∙ words-rule n α β γ least
 
-    pub pairs-number : fittingPairs d
-        ≡ cond (wordsImpossible (d .width) (d .first) (d .second) (d .line .difference)) 0
-        (2 ^ (2 * d .width - wordsWeight (d .width) (d .first) (d .second) (d .line .difference)))
-    pairs-number = eq-of-mul-eq-mul-right (2 ^ w) (pow-pos w) _ _ (pairs-rule ∙ sym (shared impossible))
-      where
-        w : ℕ
-        w = wordsWeight (d .width) (d .first) (d .second) (d .line .difference)
+  pub pairs-number : pairs n (fitsBy (sumModulo n) α β γ) ≡ cond (wordsImpossible n α β γ) 0 (2 ^ (2 * n - wordsWeight n α β γ))
+  pairs-number = eq-of-mul-eq-mul-right (2 ^ w) (pow-pos w) _ _ (pairs-rule ∙ sym (shared (wordsImpossible n α β γ)))
+    where
+      w : ℕ
+      w = wordsWeight n α β γ
 
-        impossible : Bool
-        impossible = wordsImpossible (d .width) (d .first) (d .second) (d .line .difference)
+      back : 2 * n - w + w ≡ 2 * n
+      back = omega (arith, weight-less n α β γ least)
 
-        back : 2 * d .width - w + w ≡ 2 * d .width
-        back = omega (arith, weight-less (d .width) (d .first) (d .second) (d .line .difference) least)
-
-        shared : (t : Bool) → cond t 0 (2 ^ (2 * d .width - w)) * 2 ^ w ≡ cond t 0 (2 ^ (2 * d .width))
-        shared true = zero-mul (2 ^ w)
-        shared false = sym (pow-add 2 (2 * d .width - w) w) ∙ ap (λ (z : ℕ). 2 ^ z) back
+      shared : (t : Bool) → cond t 0 (2 ^ (2 * n - w)) * 2 ^ w ≡ cond t 0 (2 ^ (2 * n))
+      shared true = zero-mul (2 ^ w)
+      shared false = sym (pow-add 2 (2 * n - w) w) ∙ ap (λ (z : ℕ). 2 ^ z) back

@@ -8,7 +8,7 @@ use Rattle.trail.specs.Kinds.{kindOf}
 use Rattle.differential.specs.declared.Differential.{Differential}
 use Rattle.differential.specs.Fits.{fits, fitting, fittingPairs}
 use Rattle.differential.specs.Unit.{unit, slack}
-use Rattle.differential.specs.Report.{Report, reporting, reportOf}
+use Rattle.differential.specs.Report.{Report, Addition, reporting, reportOf}
 use Rattle.differential.specs.Report.Reporting.{linear, twoWords, constant}
 
 -- the differences are words of the line's width, and the line is well-formed
@@ -34,8 +34,8 @@ pub record HalvesRight (n pairs weight : ℕ) : Type 0 where
   pub pairs-fit : pairs ≡ 2 ^ (2 * n - bits)
 
 -- Impossible exactly when no operand values with the stated differences give the stated result difference; certain only when all
--- do; halves and counted as above. Linear kinds are certain or impossible; adding two words is never certain or
--- counted, adding a constant never certain or halves.
+-- do; halves and counted as above. Linear kinds are certain or impossible; adding two words, or subtracting one from
+-- another, is never certain or counted, adding a constant never certain or halves.
 pub record RightReport (d : Differential) (r : Report) : Type 0 where
   pub impossible-exactly : (r .number ≡ 0) ↔ ((x y : ℕ) → x < 2 ^ d .width → y < 2 ^ d .width → fits d x y ≡ false)
   pub certain-fits : r .number ≡ 1 → (x y : ℕ) → x < 2 ^ d .width → y < 2 ^ d .width → fits d x y ≡ true
@@ -44,7 +44,7 @@ pub record RightReport (d : Differential) (r : Report) : Type 0 where
   pub counted-fitting : r .number ≡ 3 → r .fitting ≡ fitting d
   pub number-most : r .number ≤ 3
   pub linear-number : (given : Differential → ℕ) → reporting (kindOf (d .line .kind)) ≡ linear given → (r .number ≡ 0) ⊎ (r .number ≡ 1)
-  pub words-number : reporting (kindOf (d .line .kind)) ≡ twoWords → (r .number ≡ 0) ⊎ (r .number ≡ 2)
+  pub words-number : (sum : Differential → Addition) → reporting (kindOf (d .line .kind)) ≡ twoWords sum → (r .number ≡ 0) ⊎ (r .number ≡ 2)
   pub constant-number : reporting (kindOf (d .line .kind)) ≡ constant → (r .number ≡ 0) ⊎ (r .number ≡ 3)
 
 -- Demand 2 for every line by itself

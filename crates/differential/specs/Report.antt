@@ -1,11 +1,11 @@
--- A line's report (document 01, "Line reports"): one of four, with document 01's number and values.
+-- A line's report (document 01, "Line reports"; document 02, W-201): one of four, with document 01's number and values.
 use Prim.Native.Nat.{ℕ, _*_}
 use mathlib.Core.Bool.{cond}
 use lib.Bits.{bitXor}
 use lib.Dec.{eqb}
-use Rattle.words.specs.Words.{rotateLeft, rotateRight}
+use Rattle.words.specs.Words.{rotateLeft, rotateRight, shiftLeft, shiftRight}
 use Rattle.trail.specs.Kinds.{Kind, kindOf}
-use Rattle.trail.specs.Kinds.Kind.{xorWords, xorConstant, rotatesLeft, rotatesRight, addWords, addConstant, unknown}
+use Rattle.trail.specs.Kinds.Kind.{xorWords, xorConstant, rotatesLeft, rotatesRight, addWords, addConstant, shiftsLeft, shiftsRight, subtractWords, unknown}
 use Rattle.differential.specs.declared.Differential.{Differential}
 use Rattle.differential.specs.Fits.{fitting}
 use Rattle.differential.specs.TwoWords.{wordsImpossible, wordsWeight}
@@ -54,27 +54,46 @@ wordsReport n α β γ = cond (wordsImpossible n α β γ) impossible (halves (w
 abbrev pub constantReport : ℕ → ℕ → ℕ → ℕ → ℕ → Report
 constantReport n a u v fit = cond (eqb fit 0) impossible (counted (constantWeight n a u v) (chains n u v) fit)
 
+-- an addition of two words, by the differences of its operands and of its result
+pub record Addition : Type 0 where
+  pub first : ℕ
+  pub second : ℕ
+  pub result : ℕ
+
+-- kind 5: the line's own addition
+abbrev pub ownAddition : Differential → Addition
+ownAddition d = record { first = d .first; second = d .second; result = d .line .difference }
+
+-- Kind 9 with operands' differences α, β and stated difference γ: the addition that turns result and second word back into the
+-- first, α from γ and β (document 02, W-201).
+abbrev pub turningBack : Differential → Addition
+turningBack d = record { first = d .line .difference; second = d .second; result = d .first }
+
 -- How a kind's lines are reported: a linear kind by the difference that its operands' differences give, the others by an addition of
 -- two words or of a constant. An unknown kind has no report, written impossible.
 pub data Reporting : Type 0 where
   linear : (Differential → ℕ) → Reporting
-  twoWords constant none : Reporting
+  twoWords : (Differential → Addition) → Reporting
+  constant none : Reporting
 
--- Kinds 1 to 4 give the XOR, copy or rotation of the operands' differences.
+-- Kinds 1 to 4 give the XOR, copy or rotation of the operands' differences, kinds 7 and 8 the shift.
 abbrev pub reporting : Kind → Reporting
 reporting xorWords = linear (λ d. bitXor (d .first) (d .second))
 reporting xorConstant = linear (λ d. d .first)
 reporting rotatesLeft = linear (λ d. rotateLeft (d .width) (d .line .amount) (d .first))
 reporting rotatesRight = linear (λ d. rotateRight (d .width) (d .line .amount) (d .first))
-reporting addWords = twoWords
+reporting addWords = twoWords ownAddition
 reporting addConstant = constant
+reporting shiftsLeft = linear (λ d. shiftLeft (d .width) (d .line .amount) (d .first))
+reporting shiftsRight = linear (λ d. shiftRight (d .line .amount) (d .first))
+reporting subtractWords = twoWords turningBack
 reporting unknown = none
 
--- Linear kinds are certain if the difference is the given one, else impossible. Kind 5 is halves or impossible. Kind 6 is counted
--- or impossible.
+-- Linear kinds are certain if the difference is the given one, else impossible. Kinds 5 and 9 are halves or impossible. Kind 6 is
+-- counted or impossible.
 abbrev pub reportBy : Reporting → Differential → Report
 reportBy (linear given) d = certainIf (d .line .difference) (given d)
-reportBy twoWords d = wordsReport (d .width) (d .first) (d .second) (d .line .difference)
+reportBy (twoWords sum) d = wordsReport (d .width) (sum d .first) (sum d .second) (sum d .result)
 reportBy constant d = constantReport (d .width) (d .line .constant) (d .first) (d .line .difference) (fitting d)
 reportBy none d = impossible
 
@@ -84,7 +103,7 @@ reportOf d = reportBy (reporting (kindOf (d .line .kind))) d
 -- what an inner function of the code cites: the difference that a linear line gives; other lines give none, written 0
 abbrev pub givenBy : Reporting → Differential → ℕ
 givenBy (linear given) d = given d
-givenBy twoWords d = 0
+givenBy (twoWords sum) d = 0
 givenBy constant d = 0
 givenBy none d = 0
 

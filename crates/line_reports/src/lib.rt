@@ -1,4 +1,4 @@
-// One line's report: whether its differential can happen, and what it costs (document 01, "Line reports").
+// One line's report: whether its differential can happen, and what it costs (document 01, "Line reports"; document 02, W-201).
 mod linear_kinds;
 mod two_words;
 
@@ -20,9 +20,10 @@ pub fn report(d: Differential) -> LineReport
     let line = d.line;
     let kind = line.kind;
     match kind {
-        1..=4 => certain_if(d),
+        1..=4 | 7..=8 => certain_if(d),
         5 => words_report(d.width, d.first, d.second, line.difference),
         6 => constant_report(d.width, line.constant, d.first, line.difference),
+        9 => words_report(d.width, line.difference, d.second, d.first),
         _ => LineReport::Impossible,
     }
 }

@@ -1,4 +1,4 @@
-// Adding two words: kind 5.
+// Adding two words: kind 5, and kind 9 by the addition that turns it back.
 ghost use mathlib.Core.Path.{_≡_};
 ghost use Prim.Native.Nat.{_≤_};
 ghost use lib.Bits.{bitOr, bitXor};

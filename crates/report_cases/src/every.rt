@@ -42,7 +42,7 @@ fn every(kind: u32, n: u32) -> Tally
 // The smallest part: amounts start at 1, words at 0.
 fn parts_start(kind: u32) -> u64 {
     match kind {
-        3..=4 => 1,
+        3..=4 | 7..=8 => 1,
         _ => 0,
     }
 }
@@ -52,7 +52,7 @@ fn parts_end(kind: u32, n: u32) -> u64
     requires { ⌜ n ≤ 8 ⌝ }
 {
     match kind {
-        3..=4 => n as u64,
+        3..=4 | 7..=8 => n as u64,
         _ => 1 << n,
     }
 }
@@ -65,8 +65,8 @@ fn numbered(kind: u32, n: u32, number: u64) -> Differential
     let first = (number >> n) & largest(n);
     let difference = number & largest(n);
     match kind {
-        1 | 5 => differential_of(kind, n, 0, 0, first, part, difference),
-        3..=4 => differential_of(kind, n, (part % 256) as u32, 0, first, 0, difference),
+        1 | 5 | 9 => differential_of(kind, n, 0, 0, first, part, difference),
+        3..=4 | 7..=8 => differential_of(kind, n, (part % 256) as u32, 0, first, 0, difference),
         _ => differential_of(kind, n, 0, part, first, 0, difference),
     }
 }

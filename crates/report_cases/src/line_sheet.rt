@@ -18,7 +18,7 @@ pub fn differential_of(
     difference: u64,
 ) -> Differential {
     let named = match kind {
-        1 | 5 => 1,
+        1 | 5 | 9 => 1,
         _ => 0,
     };
     let line = Line {

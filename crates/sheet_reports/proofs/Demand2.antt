@@ -7,7 +7,7 @@ use Rattle.trail.specs.Kinds.{Kind, kindOf, usesSecond}
 use Rattle.trail.specs.Trail.{lineCount, lineAt}
 use Rattle.differential.specs.Report.{Reporting, reporting, reportBy, reportOf}
 use Rattle.differential.specs.Report.Reporting.{linear, twoWords, constant, none}
-use Rattle.differential.proofs.KindRows.{Reads, row-reads}
+use Rattle.differential.proofs.KindRows.{SameParts, Reads, row-reads}
 use Rattle.differential.proofs.Formula.{fitting-constant}
 use Rattle.differential.proofs.Demand2.{every-report-is-right}
 use Rattle.sheet.specs.Fields.{trailOf}
@@ -37,10 +37,18 @@ reports-are-local t k r l same =
     other-how : reporting (kindOf (lineAt r l .kind)) ≡ reporting q
     other-how = ap (λ (n : ℕ). reporting (kindOf n)) (sym (same .kind))
 
+    parts : SameParts (usesSecond q) (differentialOf t k) (differentialOf r l)
+    parts = record {
+      width = same .width;
+      amount = same .amount;
+      difference = same .difference;
+      first = same .first;
+      second = same .second;
+    }
+
     at : (p : Reporting) → reporting q ≡ p → Reads p (usesSecond q) → reportBy p (differentialOf t k) ≡ reportBy p (differentialOf r l)
-    at (linear given) how reads =
-        cc (reads (differentialOf t k) (differentialOf r l) (same .width) (same .amount) (same .first) (same .second))
-    at twoWords how used = cc (same .second used)
+    at (linear given) how reads = cc (reads (differentialOf t k) (differentialOf r l) parts)
+    at (twoWords sum) how reads = cc (reads (differentialOf t k) (differentialOf r l) parts)
     at constant how _ =
         cc (fitting-constant (differentialOf t k) how, fitting-constant (differentialOf r l) (other-how ∙ how))
     at none how _ = refl

@@ -73,8 +73,8 @@ module _ (d : Differential) (proper : Proper d) (narrow : d .width ≤ 32) where
     where
       at : (p : Reporting) → reporting (kindOf (d .line .kind)) ≡ p → SmallReport (reportBy p d)
       at (linear given) how = either-small (eqb (d .line .difference) (given d)) certain-small impossible-small
-      at twoWords how =
-          either-small (wordsImpossible (d .width) (d .first) (d .second) (d .line .difference)) impossible-small
-          (words-small (d .width) (d .first) (d .second) (d .line .difference) narrow)
+      at (twoWords sum) how =
+          either-small (wordsImpossible (d .width) (sum d .first) (sum d .second) (sum d .result)) impossible-small
+          (words-small (d .width) (sum d .first) (sum d .second) (sum d .result) narrow)
       at constant how = constant-small how (eqb (fitting d) 0) refl
       at none how = impossible-small
