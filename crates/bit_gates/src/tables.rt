@@ -41,13 +41,7 @@ pub(crate) fn carry_table(run: LineRun, i: u32) -> u32
     let line = run.line;
     let kind = line.kind;
     match kind {
-        9 => {
-            if i == 0 {
-                LESS_THAN_ONE
-            } else {
-                LESS_THAN_TWO
-            }
-        }
+        9 => { if i == 0 { LESS_THAN_ONE } else { LESS_THAN_TWO } }
         _ => {
             if bit(line.constant, i) {
                 ONE_OR_MORE

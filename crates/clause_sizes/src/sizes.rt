@@ -51,7 +51,7 @@ pub(crate) fn list_size(line: Line, n: u32) -> ListSize
 
 // In how many bits a zero is filled in, which is no literal: a shift has as many as its amount.
 fn filled_bits(line: Line, n: u32) -> u32
-    requires { ⌜ (j : ℕ) × WellFormedLine n j line ⌝ }
+    requires { ⌜ ((j : ℕ) × WellFormedLine n j line) ⌝ }
     ensures { λ r. ⌜ (r ≡ filledBits n line) × (r ≤ n) ⌝ }
 {
     let kind = line.kind;
