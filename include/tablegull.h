@@ -1,6 +1,6 @@
 /*
- * Tablegull: a checker of differential trails through additions, rotations
- * and XORs.
+ * Tablegull: a checker of differential trails through additions, subtractions,
+ * rotations, shifts and XORs.
  *
  * A sheet is 1,024 to 4,608 bytes: a program of at most 248 lines together
  * with the XOR difference expected of every word.  The calls below read a
@@ -42,10 +42,10 @@
  *                  blocks as L needs at 31 each?
  *        7      0  Are the first m input differences below 2^n, the others 0?
  *        8      0  Are the header's remaining bytes before its check zero?
- *        9   line  Is the kind 1 to 6?
+ *        9   line  Is the kind 1 to 9?
  *       10   line  Is each used operand an earlier word?
- *       11   line  For kind 5, do the operands name different words?
- *       12   line  For kinds 3 and 4, is the amount 1 to n-1?
+ *       11   line  For kinds 5 and 9, do the operands name different words?
+ *       12   line  For kinds 3, 4, 7 and 8, is the amount 1 to n-1?
  *       13   line  For kinds 2 and 6, is the constant below 2^n?
  *       14   line  Is the difference below 2^n?
  *       15   line  Are the record's zero field and unused fields zero?
@@ -80,11 +80,12 @@ extern "C" {
 
 /*
  * The version of this header, and of the Rust package beside it.  It is raised
- * when a caller has to be compiled anew, as for another layout of
- * struct tablegull_answer.  The archive does not tell its version: take header
- * and archive from the same sources.
+ * when this header or what a call answers changes, as with another layout of
+ * struct tablegull_answer or with kinds of lines that were refused before.  The
+ * archive does not tell its version: take header and archive from the same
+ * sources.
  */
-#define TABLEGULL_VERSION "0.2.0"
+#define TABLEGULL_VERSION "0.3.0"
 
 /* Lengths that are always enough. */
 #define TABLEGULL_MAX_SHEET 4608       /* bytes of a sheet                     */

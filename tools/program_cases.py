@@ -1,15 +1,15 @@
 """What the two programs are run on, and what they have to print: stdin and stdout of the crates trail_report and
 trail_clauses, a sheet of 248 lines each; and the cases of the same texts of several sheets, which crates/cases runs, with the
-sheets in its folder data. All of it comes from document 01, from this file and from oracle/trail.py, an independent reading of
-the document.
+sheets in its folder data. All of it comes from documents 01 and 02, from this file and from oracle/trail.py, an independent
+reading of the documents.
 
 A case is a line `TEXT FILE`: the text that is printed, and the file of the sheet. The texts are `report`, `clauses`, and
 `header`, which is the first line of the clauses.
 """
 from pathlib import Path
 
-from oracle.trail import (BLOCK, MAX_LINES, Line, Sheet, clauses_text, read, report, report_text, seal_bytes, totals,
-                          variables)
+from oracle.trail import (BLOCK, CARRY_KINDS, KINDS, MAX_LINES, Line, Sheet, clauses_text, read, report, report_text,
+                          seal_bytes, totals, variables)
 from report_cases import difference_made, some_line, spread, trail
 from sheet_cases import put, put_field
 
@@ -66,7 +66,7 @@ def report_line(k):
         return Line(6, first=OTHER_BITS, constant=spread(WIDTH, k) & 0xAAAAAAAA), 0, 0
     if turn == 4:
         return Line(6, first=FEW_BITS[dozen % 3], constant=spread(WIDTH, k)), spread(WIDTH, k + 3), 0
-    return some_line(1 + (turn + dozen) % 6, WIDTH, INPUTS + k, k), spread(WIDTH, k + 3), spread(WIDTH, k + 5)
+    return some_line(KINDS[(turn + dozen) % len(KINDS)], WIDTH, INPUTS + k, k), spread(WIDTH, k + 3), spread(WIDTH, k + 5)
 
 
 def report_sheet():
@@ -77,24 +77,25 @@ def report_sheet():
         line.difference = difference_made(sheet, line, x, y) ^ int(k % 12 >= 7)
         sheet.lines.append(line)
     kinds = {(number, line.kind) for (number, *_), line in zip(report(sheet), sheet.lines)}
-    assert kinds == {(0, kind) for kind in range(1, 7)} | {(1, kind) for kind in range(1, 5)} | {(2, 5), (3, 6)}
+    certain = {(1, kind) for kind in KINDS if kind not in CARRY_KINDS}
+    assert kinds == {(0, kind) for kind in KINDS} | certain | {(2, 5), (2, 9), (3, 6)}
     most = [max(column) for column in zip(*report(sheet))]
     assert most == [3, 496, 16, 2**32] and all(least <= total for least, total in zip((100, 10000, 1000), totals(sheet)))
     return sheet.pack()
 
 
 def clause_kind(k):
-    """Few additions, whose clauses are many, and yet enough of them that their carries have numbers of five digits."""
+    """Few lines with carries, whose clauses are many, and yet enough of them that the carries have numbers of five digits."""
     if k % 62 == 61:
-        return 5
+        return 5 if k % 124 == 61 else 9
     if k % 9 == 4:
         return 6
-    return 1 if k % 31 == 0 else 2 + k % 3
+    return 1 if k % 31 == 0 else (2, 3, 4, 7, 8)[k % 5]
 
 
 def clause_sheet():
     data = trail(WIDTH, INPUTS, MAX_LINES, clause_kind)
-    assert {line.kind for line in read(data).lines} == set(range(1, 7)) and 10000 <= variables(read(data))
+    assert {line.kind for line in read(data).lines} == set(KINDS) and 10000 <= variables(read(data))
     return data
 
 
@@ -149,7 +150,7 @@ def refused_sheets():
         ("one_byte_more", largest() + bytes(1), "1 0"),
         ("one_block_more", largest() + bytes(BLOCK), "1 0"),
         ("wrong_check", put(good, 2 * BLOCK - 1, good[-1] ^ 1), "2 1"),
-        ("unknown_kind", seal_bytes(put_field(good, 3, "kind", 7)), "9 3"),
+        ("unknown_kind", seal_bytes(put_field(good, 3, "kind", 10)), "9 3"),
         ("unused_field", seal_bytes(put_field(largest(), MAX_LINES - 1, "amount", 1)), "15 247"),
     ):
         add(name, data, ("report", "clauses"), f"refused {refusal}\n")

@@ -1,7 +1,7 @@
 """The cases of line reports that crates/report_cases runs, and the answers that it has to give. Both come from this file and
-from oracle/trail.py, an independent reading of document 01, alone. A differential's report is held here, too, against a count
-over all operand values; only at 32 bits the count is the oracle's, by carry pairs, and the program's is the one that tries
-every word.
+from oracle/trail.py, an independent reading of documents 01 and 02, alone. A differential's report is held here, too, against
+a count over all operand values; only at 32 bits the count is the oracle's, by carry pairs, and the program's is the one that
+tries every word.
 
 A case is a line `NAME: NUMBERS`, by the name's first word one of
 - `every`: KIND WIDTH, all differentials of a kind and a width, in the order of the part that the kind names (the second
@@ -15,9 +15,9 @@ A case is a line `NAME: NUMBERS`, by the name's first word one of
 """
 from collections import Counter
 
-from oracle.trail import (NAMES, Line, Refused, Sheet, apply, count6, line_report, read, report_bytes, rotl, seal_bytes,
-                          totals)
-from sheet_cases import AMOUNT_KINDS, BLOCK, CONSTANT_KINDS, TWO_WORD_KINDS, case_line, put, put_field
+from oracle.trail import (AMOUNT_KINDS, BLOCK, CARRY_KINDS, CONSTANT_KINDS, KINDS, NAMES, TWO_WORD_KINDS, Line, Refused, Sheet,
+                          apply, count6, line_report, read, report_bytes, rotl, seal_bytes, totals)
+from sheet_cases import case_line, put, put_field
 
 # The program's two texts, line by line.
 cases, answers = [], []
@@ -44,9 +44,9 @@ def agrees(kind, n, report, count):
     if number == 0:
         return count == 0
     if number == 1:
-        return kind <= 4 and count == values
+        return kind not in CARRY_KINDS and count == values
     if number == 2:
-        return kind == 5 and weight % 16 == 0 and count * 2**(weight // 16) == values
+        return kind in (5, 9) and weight % 16 == 0 and count * 2**(weight // 16) == values
     return kind == 6 and 0 < count == fitting and 2**(16 * n - weight) <= count**16 <= 2**(16 * n - weight + 3 * chains)
 
 
@@ -98,8 +98,8 @@ def every(kind, n):
 
 
 def all_differentials():
-    for kind, widths in ((1, (2, 3, 4)), (2, (2, 3, 4)), (3, (2, 3, 4)), (4, (2, 3, 4)), (5, (2, 3, 4, 5)), (6, (2, 3, 4, 5))):
-        for n in widths:
+    for kind in KINDS:
+        for n in (2, 3, 4, 5) if kind in CARRY_KINDS else (2, 3, 4):
             every(kind, n)
 
 
@@ -116,8 +116,8 @@ def constant_added(name, n, a, u, v, form="d"):
     return differential(f"{name} ({a:{form}},{u:{form}},{v:{form}})", 6, n, constant=a, first=u, difference=v)
 
 
-def words_added(name, n, alpha, beta, gamma):
-    return differential(f"{name} ({alpha},{beta} to {gamma})", 5, n, first=alpha, second=beta, difference=gamma)
+def of_two_words(name, kind, n, alpha, beta, gamma):
+    return differential(f"{name} ({alpha},{beta} to {gamma})", kind, n, first=alpha, second=beta, difference=gamma)
 
 
 def starred():
@@ -125,15 +125,39 @@ def starred():
         number, weight, chains, fitting = constant_added("01's starred, kind 6,", 4, a, u, v)
         assert number == (3 if printed else 0) and (fitting, weight, chains) == (printed or (0, 0, 0))
     for (alpha, beta, gamma), bits in STARRED_5.items():
-        report = words_added("01's starred, kind 5,", 4, alpha, beta, gamma)
+        report = of_two_words("01's starred, kind 5,", 5, 4, alpha, beta, gamma)
         assert report == ((0, 0, 0, 0) if bits is None else (2, 16 * bits, 0, 0))
 
 
 def misreadings():
     assert constant_added("not kind 5 with difference 0,", 4, 0, 1, 3) == (0, 0, 0, 0)
-    assert words_added("kind 5 with difference 0,", 4, 1, 0, 3) == (2, 32, 0, 0)
-    assert words_added("the top position costs nothing,", 4, 8, 0, 8) == (2, 0, 0, 0)
+    assert of_two_words("kind 5 with difference 0,", 5, 4, 1, 0, 3) == (2, 32, 0, 0)
+    assert of_two_words("the top position costs nothing,", 5, 4, 8, 0, 8) == (2, 0, 0, 0)
     assert constant_added("counted and not certain,", 4, 5, 8, 8) == (3, 0, 0, 16)
+
+
+# Document 02's shifts and subtraction
+
+# (first, second, stated difference) of kind 9 at width 4: whole bits, those of the addition that turns result and second word
+# back into the first; None where impossible. Never certain, and the top position costs nothing here either.
+SUBTRACTIONS = {(0, 0, 0): 0, (1, 0, 1): 1, (0, 1, 1): 1, (0, 1, 15): 3, (1, 1, 0): 1, (8, 0, 8): 0, (0, 8, 8): 0,
+                (0, 0, 1): None}
+# (kind, amount, difference, stated difference) at width 16: whether it is certain. A bit that passes the end is dropped, and
+# neither it nor the top bit is filled in at the other end.
+SHIFTS = {(7, 1, 0x8001, 2): True, (7, 1, 0x8001, 3): False, (7, 15, 0xFFFF, 0x8000): True, (7, 15, 0xFFFE, 0): True,
+          (8, 1, 0x8001, 0x4000): True, (8, 1, 0x8001, 0xC000): False, (8, 15, 0xFFFF, 1): True, (8, 15, 0x7FFF, 0): True}
+
+
+def subtractions():
+    for (alpha, beta, gamma), bits in SUBTRACTIONS.items():
+        report = of_two_words("a subtraction", 9, 4, alpha, beta, gamma)
+        assert report == ((0, 0, 0, 0) if bits is None else (2, 16 * bits, 0, 0))
+
+
+def shifts():
+    for (kind, amount, first, difference), certain in SHIFTS.items():
+        name = f"kind {kind} by {amount} ({first:x} to {difference:x})"
+        assert differential(name, kind, 16, amount, first=first, difference=difference) == (int(certain), 0, 0, 0)
 
 
 # Differentials of source 000
@@ -222,7 +246,7 @@ def some_line(kind, n, word, k):
     return line
 
 
-def trail(n, m, count, kind_of=lambda k: 1 + k % 6):
+def trail(n, m, count, kind_of=lambda k: KINDS[k % len(KINDS)]):
     """A sheet with lines of all kinds. Most state a difference that some operand values have, every fifth another one."""
     sheet = Sheet(n, [spread(n, j + 1) for j in range(m)], [])
     for k in range(count):
@@ -242,12 +266,13 @@ def refused_sheets():
     good = trail(8, 2, 12)
     add_unsealed("with a wrong check in its last block", put(good, 2 * BLOCK - 1, good[-1] ^ 1), "2 1")
     add_unsealed("with width 33", seal_bytes(put(good, 4, 33)), "4 0")
-    add_unsealed("with kind 7 in line 3", seal_bytes(put_field(good, 3, "kind", 7)), "9 3")
+    add_unsealed("with kind 10 in line 3", seal_bytes(put_field(good, 3, "kind", 10)), "9 3")
     add_unsealed("of one block", good[:BLOCK], "1 0")
 
 
 def texts():
     """The lines of all cases, and of their answers."""
-    for group in (all_differentials, starred, misreadings, example_1, table_15, long_quiet, whole_sheets, refused_sheets):
+    for group in (all_differentials, starred, misreadings, subtractions, shifts, example_1, table_15, long_quiet, whole_sheets,
+                  refused_sheets):
         group()
     return cases, answers

@@ -1,17 +1,16 @@
 """The cases of reading and sealing that crates/sheet_cases runs, and the answers that it has to give. Both come from this file
-and from oracle/trail.py, an independent reading of document 01, alone.
+and from oracle/trail.py, an independent reading of documents 01 and 02, alone.
 
 A case is a line `NAME: LENGTH OFFSET=VALUE OFFSET=VALUE ..`, a sheet whose other bytes are 0. Its answer is a line
 `NAME: read ANSWER; seal ANSWER OFFSET=VALUE ..`, with `accepted BLOCKS WIDTH INPUTS LINES` or `refused NUMBER PLACE` as
 ANSWER, and at the end the bytes that sealing changes.
 """
-from oracle.trail import BLOCK, PER_BLOCK, RECORD, Line, Refused, Sheet, read, record_at, seal_bytes
+from oracle.trail import (AMOUNT_KINDS, BLOCK, CONSTANT_KINDS, KINDS, PER_BLOCK, RECORD, TWO_WORD_KINDS, Line, Refused, Sheet,
+                          read, record_at, seal_bytes)
 
 # The longest sheet of a case.
 MOST_BYTES = 2**16
 
-KINDS = range(1, 7)
-TWO_WORD_KINDS, CONSTANT_KINDS, AMOUNT_KINDS = (1, 5), (2, 6), (3, 4)
 # A record's fields: offset, size, and the kinds that use it.
 FIELDS = {
     "kind": (0, 1, KINDS),
@@ -105,7 +104,7 @@ def rich(n, m, count):
 
     lines = []
     for k in range(count):
-        kind, last = 1 + k % 6, m + k - 1
+        kind, last = KINDS[k % len(KINDS)], m + k - 1
         line = Line(kind, first=last, difference=spread(k + 7))
         line.amount = 1 + k % (n - 1) if kind in AMOUNT_KINDS else 0
         line.second = last // 2 if kind in TWO_WORD_KINDS else 0
@@ -124,7 +123,7 @@ def whole_sheets():
     example[520:528] = bytes.fromhex("01 00 00 00 03 00 00 00")
     example[1020:1024] = bytes.fromhex("0B 00 00 00")
     add("document 01's example", example)
-    add("a line of each kind at width 16", rich(16, 3, 6))
+    add("a line of each kind at width 16", rich(16, 3, 9))
     add("70 lines of all kinds at width 31", rich(31, 5, 70))
     add("248 lines of all kinds at width 32", rich(32, 8, 248))
 
@@ -213,7 +212,7 @@ def input_differences():
 def kinds():
     for kind in KINDS:
         add_sealed(f"kind {kind}", with_lines(8, {LINE: kind}))
-    for kind in (0, 7, 8, 9, 128, 255):
+    for kind in (0, 10, 128, 255):
         add_sealed(f"kind {kind}", put_field(with_lines(8, {LINE: 1}), LINE, "kind", kind), 9)
     for line in (0, 30, 31, 61, 62):
         add_sealed(f"kind 0 in line {line} of 63", put_field(plain(count=63), line, "kind", 0), 9)
@@ -231,7 +230,7 @@ def operands():
     for word in (254, 255, 256):
         data = put_field(plain(m=8, count=248), 247, "first operand", word)
         add_sealed(f"operand {word} in line 247 after 8 inputs", data, 0 if word < 255 else 10)
-    for kind, question in ((1, 0), (5, 11)):
+    for kind, question in ((1, 0), (5, 11), (9, 11)):
         data = put_field(with_lines(8, {LINE: kind}), LINE, "second operand", 1)
         add_sealed(f"kind {kind} on one word twice", data, question)
 
@@ -302,9 +301,9 @@ HEADER_FAULTS = {
     8: ("header byte 40", lambda data: put(data, 40, 1)),
 }
 LINE_FAULTS = {
-    9: ("kind 7", KINDS, lambda data, line: put_field(data, line, "kind", 7)),
+    9: ("kind 10", KINDS, lambda data, line: put_field(data, line, "kind", 10)),
     10: ("operand 99", KINDS, lambda data, line: put_field(data, line, "first operand", 99)),
-    11: ("one word twice", (5,), first_twice),
+    11: ("one word twice", (5, 9), first_twice),
     12: ("amount 8", AMOUNT_KINDS, lambda data, line: put_field(data, line, "amount", 8)),
     13: ("constant 2^8", CONSTANT_KINDS, lambda data, line: put_field(data, line, "constant", 2**8)),
     14: ("difference 2^8", KINDS, lambda data, line: put_field(data, line, "difference", 2**8)),
@@ -325,10 +324,10 @@ def two_questions():
         add_sealed(f"{name}, {other_name}", other(fault(sheet)), a)
     add("1025 bytes, wrong check", off(sheet, 0, 1) + bytes(1), 1)
     add("wrong check in the last block, wrong mark", off(seal_bytes(put(sheet, 0, 0)), 1, 1), 2)
-    add_sealed("header byte 40, kind 7", put_field(put(sheet, 40, 1), LINE, "kind", 7), 8)
+    add_sealed("header byte 40, kind 10", put_field(put(sheet, 40, 1), LINE, "kind", 10), 8)
     add_sealed("zero field, byte 507 of line block 1", put(put_field(sheet, LINE, "zero field", 1), BLOCK + 507, 1), 15)
-    late = put_field(plain(count=63), 40, "kind", 7)
-    add_sealed("kind 7 in line 40, byte 500 of line block 1", put(late, BLOCK + 500, 1), 9)
+    late = put_field(plain(count=63), 40, "kind", 10)
+    add_sealed("kind 10 in line 40, byte 500 of line block 1", put(late, BLOCK + 500, 1), 9)
 
 
 def two_questions_of_a_line():

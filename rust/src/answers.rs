@@ -13,9 +13,10 @@ pub struct WholeBits(pub u64);
 pub enum LineReport {
     /// No operand values with the stated differences give the stated result.
     Impossible,
-    /// All do: XORs and rotations.
+    /// All do: XORs, rotations and shifts.
     Certain,
-    /// Of the pairs of words 2^(2n-w) fit: the sum of two words.
+    /// Of the pairs of words 2^(2n-w) fit: the sum of two words, or one minus the
+    /// other.
     Halves {
         /// w.
         weight: WholeBits,

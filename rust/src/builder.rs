@@ -109,6 +109,39 @@ impl Line {
         }
     }
 
+    /// Kind 7: a word shifted left by 1 to n-1 places, with zeros filled in.
+    pub fn shift_left(first: u16, amount: u8, difference: u32) -> Line {
+        Line {
+            kind: 7,
+            amount,
+            first,
+            difference,
+            ..Line::NOTHING
+        }
+    }
+
+    /// Kind 8: a word shifted right by 1 to n-1 places, with zeros filled in.
+    pub fn shift_right(first: u16, amount: u8, difference: u32) -> Line {
+        Line {
+            kind: 8,
+            amount,
+            first,
+            difference,
+            ..Line::NOTHING
+        }
+    }
+
+    /// Kind 9: the first of two different words minus the second.
+    pub fn subtract(first: u16, second: u16, difference: u32) -> Line {
+        Line {
+            kind: 9,
+            first,
+            second,
+            difference,
+            ..Line::NOTHING
+        }
+    }
+
     fn record(&self) -> [u8; 16] {
         let mut record = [0; 16];
         record[0] = self.kind;

@@ -1,4 +1,5 @@
-//! Tablegull checks differential trails through additions, rotations and XORs.
+//! Tablegull checks differential trails through additions, subtractions,
+//! rotations, shifts and XORs.
 //!
 //! A sheet is a program of at most 248 lines together with the XOR difference
 //! expected of every word. The calls at the root of this crate hand sheets to
@@ -23,9 +24,9 @@
 //! The calls are there when the build has found the archive: in the folder that
 //! `TABLEGULL_LIB` names, or else in `../target/staticlib`.
 //!
-//! [`mod@reference`] has the same calls in plain Rust, written from document 01
-//! alone and independently of the archive; the tests hold the two against each
-//! other. [`builder`] makes sheets.
+//! [`mod@reference`] has the same calls in plain Rust, written from documents 01
+//! and 02 alone and independently of the archive; the tests hold the two against
+//! each other. [`builder`] makes sheets.
 //!
 //! Programs, all with `cargo run --release --bin NAME`:
 //!
@@ -86,10 +87,10 @@ impl Refusal {
             }
             7 => "Are the first m input differences below 2^n, the others 0?",
             8 => "Are the header's remaining bytes before its check zero?",
-            9 => "Is the kind 1 to 6?",
+            9 => "Is the kind 1 to 9?",
             10 => "Is each used operand an earlier word?",
-            11 => "For kind 5, do the operands name different words?",
-            12 => "For kinds 3 and 4, is the amount 1 to n-1?",
+            11 => "For kinds 5 and 9, do the operands name different words?",
+            12 => "For kinds 3, 4, 7 and 8, is the amount 1 to n-1?",
             13 => "For kinds 2 and 6, is the constant below 2^n?",
             14 => "Is the difference below 2^n?",
             15 => "Are the record's zero field and unused fields zero?",

@@ -341,7 +341,8 @@ mod compared {
             1 => (1 << width) - 1,
             2 => words.wrapping_sub(random.below(3) as u64),
             3 => random.below(34) as u64,
-            4 => random.below(8) as u64,
+            // Kinds, and the first numbers past them.
+            4 => random.below(12) as u64,
             _ => random.next() >> random.below(64),
         };
         let blocks = bytes.len() / 512;

@@ -1,8 +1,9 @@
-//! The examples, cases and bounds that document 01 prints.
+//! The examples, cases and bounds that document 01 prints, and cases of the
+//! kinds that document 02 adds.
 
 mod common;
 
-use common::{counted, halves, implementations, write_checks, Report, CERTAIN, IMPOSSIBLE};
+use common::{counted, halves, implementations, write_checks, Calls, Report, CERTAIN, IMPOSSIBLE};
 use tablegull::builder::{Line, SheetBuilder};
 use tablegull::Refusal;
 
@@ -83,6 +84,88 @@ fn example_sheet_has_its_clauses() {
     }
 }
 
+/// The clauses of the only line of a sheet.
+fn clauses(sheet: &SheetBuilder) -> Vec<Vec<i32>> {
+    agreed(sheet, |calls, bytes| calls.clauses(bytes, 0))
+}
+
+#[test]
+fn filled_zeros_are_no_literals() {
+    // Words at n = 3: the input has variables 1 to 3, the result 4 to 6.
+    let mut left = SheetBuilder::new(3, &[0b110]);
+    left.line(Line::shift_left(0, 1, 0b100));
+    let expected: &[&[i32]] = &[
+        &[-4],
+        &[1, -5],
+        &[-1, 5],
+        &[2, -6],
+        &[-2, 6],
+        &[-4],
+        &[1, -5],
+        &[-1, 5],
+        &[-2, 6],
+        &[2, -6],
+    ];
+    assert_eq!(clauses(&left), expected);
+
+    // Impossible: a filled bit differs, and its two clauses contradict.
+    let mut right = SheetBuilder::new(3, &[0b100]);
+    right.line(Line::shift_right(0, 2, 0b011));
+    let expected: &[&[i32]] = &[
+        &[3, -4],
+        &[-3, 4],
+        &[-5],
+        &[-6],
+        &[-3, 4],
+        &[3, -4],
+        &[5],
+        &[-6],
+    ];
+    assert_eq!(clauses(&right), expected);
+}
+
+#[test]
+fn a_borrow_replaces_the_carry() {
+    // At n = 2: words 1 to 6, the borrow into bit 1 is 7, in the second run 8.
+    let mut sheet = SheetBuilder::new(2, &[0b01, 0b00]);
+    sheet.line(Line::subtract(0, 1, 0b11));
+    let expected: &[&[i32]] = &[
+        &[1, 3, -5],
+        &[1, -3, 5],
+        &[-1, 3, 5],
+        &[-1, -3, -5],
+        &[1, 3, -7],
+        &[1, -3, 7],
+        &[-1, 3, -7],
+        &[-1, -3, -7],
+        &[2, 4, 7, -6],
+        &[2, 4, -7, 6],
+        &[2, -4, 7, 6],
+        &[2, -4, -7, -6],
+        &[-2, 4, 7, 6],
+        &[-2, 4, -7, -6],
+        &[-2, -4, 7, -6],
+        &[-2, -4, -7, 6],
+        &[-1, 3, 5],
+        &[-1, -3, -5],
+        &[1, 3, -5],
+        &[1, -3, 5],
+        &[-1, 3, -8],
+        &[-1, -3, 8],
+        &[1, 3, -8],
+        &[1, -3, -8],
+        &[2, 4, 8, 6],
+        &[2, 4, -8, -6],
+        &[2, -4, 8, -6],
+        &[2, -4, -8, 6],
+        &[-2, 4, 8, -6],
+        &[-2, 4, -8, 6],
+        &[-2, -4, 8, 6],
+        &[-2, -4, -8, -6],
+    ];
+    assert_eq!(clauses(&sheet), expected);
+}
+
 /// The report of a line that adds a constant, at n = 4.
 fn kind_6(a: u32, u: u32, v: u32) -> Vec<Report> {
     let mut sheet = SheetBuilder::new(4, &[u]);
@@ -97,15 +180,27 @@ fn kind_5(u: u32, v: u32, w: u32) -> Vec<Report> {
     reports(&sheet)
 }
 
+/// The report of a line that subtracts a word from another, at n = 4.
+fn kind_9(u: u32, v: u32, w: u32) -> Vec<Report> {
+    let mut sheet = SheetBuilder::new(4, &[u, v]);
+    sheet.line(Line::subtract(0, 1, w));
+    reports(&sheet)
+}
+
 fn reports(sheet: &SheetBuilder) -> Vec<Report> {
+    agreed(sheet, |calls, bytes| calls.reports(bytes))
+}
+
+/// What all implementations answer on a sheet.
+fn agreed<T: PartialEq>(sheet: &SheetBuilder, ask: impl Fn(&Calls, &[u8]) -> T) -> T {
     let mut bytes = sheet.unsealed();
     write_checks(&mut bytes);
-    let reports: Vec<Vec<Report>> = implementations()
-        .iter()
-        .map(|calls| calls.reports(&bytes))
-        .collect();
-    assert!(reports.iter().all(|report| *report == reports[0]));
-    reports[0].clone()
+    let mut answers = implementations()
+        .into_iter()
+        .map(|calls| ask(&calls, &bytes));
+    let first = answers.next().expect("the reference is always there");
+    assert!(answers.all(|answer| answer == first));
+    first
 }
 
 #[test]
@@ -127,6 +222,33 @@ fn cases_of_kind_5() {
     assert_eq!(kind_5(8, 0, 8), [halves(0)]);
     assert_eq!(kind_5(1, 1, 0), [halves(1)]);
     assert_eq!(kind_5(0, 0, 1), [IMPOSSIBLE]);
+}
+
+#[test]
+fn cases_of_kind_9() {
+    assert_eq!(kind_9(0, 0, 0), [halves(0)]);
+    assert_eq!(kind_9(1, 0, 1), [halves(1)]);
+    assert_eq!(kind_9(0, 1, 1), [halves(1)]);
+    assert_eq!(kind_9(0, 1, 15), [halves(3)]);
+    assert_eq!(kind_9(8, 0, 8), [halves(0)]);
+    assert_eq!(kind_9(1, 1, 0), [halves(1)]);
+    assert_eq!(kind_9(0, 0, 1), [IMPOSSIBLE]);
+}
+
+#[test]
+fn shifts_are_certain_or_impossible() {
+    let mut sheet = SheetBuilder::new(4, &[0b1001]);
+    sheet.line(Line::shift_left(0, 1, 0b0010));
+    sheet.line(Line::shift_left(0, 1, 0b0011)); // a rotation's
+    sheet.line(Line::shift_left(0, 3, 0b1000));
+    sheet.line(Line::shift_right(0, 1, 0b0100));
+    sheet.line(Line::shift_right(0, 1, 0b1100)); // a rotation's
+    sheet.line(Line::shift_right(0, 3, 0b0001));
+    sheet.line(Line::shift_right(1, 2, 0)); // the only difference is dropped
+    assert_eq!(
+        reports(&sheet),
+        [CERTAIN, IMPOSSIBLE, CERTAIN, CERTAIN, IMPOSSIBLE, CERTAIN, CERTAIN]
+    );
 }
 
 #[test]

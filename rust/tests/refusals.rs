@@ -9,15 +9,18 @@ use tablegull::Refusal;
 /// 33 lines of all kinds at n = 20: a full line block and one with two lines.
 fn sheet() -> Vec<u8> {
     let mut sheet = SheetBuilder::new(20, &[1, 2, 3]);
-    for _ in 0..5 {
+    for _ in 0..3 {
         sheet.line(Line::xor(0, 1, 3));
         sheet.line(Line::xor_constant(0, 5, 1));
         sheet.line(Line::rotate_left(1, 19, 1));
         sheet.line(Line::rotate_right(1, 1, 1));
         sheet.line(Line::add(0, 1, 3));
         sheet.line(Line::add_constant(0, 7, 1));
+        sheet.line(Line::shift_left(1, 19, 0));
+        sheet.line(Line::shift_right(1, 1, 1));
+        sheet.line(Line::subtract(1, 0, 3));
     }
-    for _ in 0..3 {
+    for _ in 0..6 {
         sheet.line(Line::xor(0, 0, 0));
     }
     let mut bytes = sheet.unsealed();
@@ -56,7 +59,7 @@ fn damages() -> Vec<Damage> {
         (record(0) + 1, 1, 15, 0),
         (record(0) + 7, 1, 15, 0),
         (record(0) + 8, 1, 15, 0),
-        (record(1), 7, 9, 1),
+        (record(1), 10, 9, 1),
         (record(1) + 3, 1, 10, 1),
         (record(1) + 10, 0x10, 13, 1),
         (record(1) + 15, 1, 14, 1),
@@ -78,8 +81,27 @@ fn damages() -> Vec<Damage> {
         (record(5) + 11, 1, 13, 5),
         (record(5) + 1, 1, 15, 5),
         (record(5) + 4, 1, 15, 5),
+        (record(6) + 2, 9, 10, 6),
+        (record(6) + 1, 20, 12, 6),
+        (record(6) + 14, 0x10, 14, 6),
+        (record(6) + 4, 1, 15, 6),
+        (record(6) + 7, 1, 15, 6),
+        (record(6) + 8, 1, 15, 6),
+        (record(7) + 3, 1, 10, 7),
+        (record(7) + 1, 0, 12, 7),
+        (record(7) + 15, 1, 14, 7),
+        (record(7) + 5, 1, 15, 7),
+        (record(7) + 6, 1, 15, 7),
+        (record(7) + 11, 1, 15, 7),
+        (record(8) + 2, 11, 10, 8),
+        (record(8) + 4, 11, 10, 8),
+        (record(8) + 4, 1, 11, 8),
+        (record(8) + 14, 0x10, 14, 8),
+        (record(8) + 1, 1, 15, 8),
+        (record(8) + 6, 1, 15, 8),
+        (record(8) + 9, 1, 15, 8),
         (record(30), 0xff, 9, 30),
-        (record(32), 9, 9, 32),
+        (record(32), 10, 9, 32),
         (record(32) + 4, 35, 10, 32),
         (512 + 496, 1, 16, 1),
         (512 + 507, 1, 16, 1),
@@ -238,8 +260,9 @@ fn questions_about_a_call_come_after_the_sheet() {
 #[test]
 fn every_line_measures_its_own_need() {
     let good = sheet();
-    // n = 20: kinds 1 to 6 as the outputs' rows give them, worked out by hand.
-    let needs = [640, 240, 240, 240, 3024, 1208];
+    // n = 20: kinds 1 to 9 as the outputs' rows give them, worked out by hand.
+    // The shifts are by 19 and by 1.
+    let needs = [640, 240, 240, 240, 3024, 1208, 88, 232, 3024];
     for calls in implementations() {
         for (line, need) in needs.into_iter().enumerate() {
             let mut out = vec![7; need + 1];
@@ -276,8 +299,11 @@ fn the_builder_hands_refusals_on() {
     assert_eq!(one_line(8, &[256], quiet), Err(7));
     assert_eq!(one_line(8, &[0], Line::xor(0, 1, 0)), Err(10));
     assert_eq!(one_line(8, &[0], Line::add(0, 0, 0)), Err(11));
+    assert_eq!(one_line(8, &[0], Line::subtract(0, 0, 0)), Err(11));
     assert_eq!(one_line(8, &[0], Line::rotate_left(0, 8, 0)), Err(12));
     assert_eq!(one_line(8, &[0], Line::rotate_right(0, 0, 0)), Err(12));
+    assert_eq!(one_line(8, &[0], Line::shift_left(0, 8, 0)), Err(12));
+    assert_eq!(one_line(8, &[0], Line::shift_right(0, 0, 0)), Err(12));
     assert_eq!(one_line(8, &[0], Line::add_constant(0, 256, 0)), Err(13));
     assert_eq!(one_line(8, &[0], Line::xor_constant(0, 0, 256)), Err(14));
 

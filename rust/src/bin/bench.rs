@@ -27,7 +27,7 @@ const ROUNDS_TO_A_LONG_ONE: usize = 4;
 const TIME_OF_ONE_MEASURE: Duration = Duration::from_micros(400);
 
 fn main() {
-    let mixed = sheet_of(&[1, 2, 3, 4, 5, 6]);
+    let mixed = sheet_of(&[1, 2, 3, 4, 5, 6, 7, 8, 9]);
     let additions = sheet_of(&[5]);
     let constants = sheet_of(&[6]);
     let mut cases = [
@@ -283,7 +283,10 @@ fn sheet_of(kinds: &[u8]) -> Vec<u8> {
             3 => words[a].rotate_left(amount),
             4 => words[a].rotate_right(amount),
             5 => words[a].wrapping_add(words[b]),
-            _ => words[a].wrapping_add(constant),
+            6 => words[a].wrapping_add(constant),
+            7 => words[a] << amount,
+            8 => words[a] >> amount,
+            _ => words[a].wrapping_sub(words[b]),
         };
         let (x, y) = (result(&first), result(&second));
         first.push(x);
@@ -295,7 +298,10 @@ fn sheet_of(kinds: &[u8]) -> Vec<u8> {
             3 => Line::rotate_left(a, amount, difference),
             4 => Line::rotate_right(a, amount, difference),
             5 => Line::add(a, b, difference),
-            _ => Line::add_constant(a, constant, difference),
+            6 => Line::add_constant(a, constant, difference),
+            7 => Line::shift_left(a, amount, difference),
+            8 => Line::shift_right(a, amount, difference),
+            _ => Line::subtract(a, b, difference),
         });
     }
     sheet.seal().expect("an accepted sheet")

@@ -22,6 +22,14 @@ const OR: u32 = 0b1110;
 const EQUAL: u32 = 0b1001;
 const XOR_OF_THREE: u32 = 0b1001_0110;
 const MAJORITY: u32 = 0b1110_1000;
+const LESS: u32 = 0b0010;
+const LESS_THAN_SUM: u32 = 0b1000_1110;
+
+// What is carried out of bit 0 and, given what is carried into them, out of the
+// bits above it. What is carried in a subtraction is a borrow: a bit borrows
+// where the first word's bit is less than the second's and the borrow together.
+const CARRIES: [u32; 2] = [AND, MAJORITY];
+const BORROWS: [u32; 2] = [LESS, LESS_THAN_SUM];
 
 impl Sheet<'_> {
     /// The numbers of variables and clauses of the whole sheet.
@@ -35,14 +43,14 @@ impl Sheet<'_> {
             },
             |counts, record| ClauseCounts {
                 variables: counts.variables + carry_variables(record.kind, width),
-                clauses: counts.clauses + clause_count(record.kind, width),
+                clauses: counts.clauses + clause_count(&record, width),
             },
         )
     }
 
     /// How many numbers [`Sheet::line_clauses`] writes.
     pub fn line_clauses_len(&self, line: usize) -> usize {
-        list_length(self.record(line).kind, self.width() as usize)
+        list_length(&self.record(line), self.width() as usize)
     }
 
     /// Writes one line's clauses over the whole of `out`, which must have just
@@ -50,9 +58,10 @@ impl Sheet<'_> {
     pub fn line_clauses(&self, line: usize, out: &mut [i32]) {
         let record = self.record(line);
         let result = (self.input_count() + line) as u16;
-        let carries = match record.kind {
-            sheet::ADD | sheet::ADD_CONSTANT => self.first_carry(line),
-            _ => 0,
+        let carries = if has_carries(record.kind) {
+            self.first_carry(line)
+        } else {
+            0
         };
         let mut list = List { rest: out };
         for second in [false, true] {
@@ -66,7 +75,7 @@ impl Sheet<'_> {
         debug_assert!(list.rest.is_empty(), "the length is the list's");
     }
 
-    /// The variable of the carry into bit 1 of an addition line's first run.
+    /// The variable of the carry into bit 1 of a line's first run.
     fn first_carry(&self, line: usize) -> i32 {
         let width = self.width() as usize;
         let words = self.input_count() + self.line_count();
@@ -79,32 +88,46 @@ impl Sheet<'_> {
     }
 }
 
+/// Whether a line of a kind has carries, or borrows in their place.
+fn has_carries(kind: u8) -> bool {
+    matches!(kind, sheet::ADD | sheet::ADD_CONSTANT | sheet::SUBTRACT)
+}
+
 fn carry_variables(kind: u8, width: usize) -> usize {
-    match kind {
-        sheet::ADD | sheet::ADD_CONSTANT => 2 * (width - 1),
-        _ => 0,
+    if has_carries(kind) {
+        2 * (width - 1)
+    } else {
+        0
     }
 }
 
 // Each output of k input literals has 2^k clauses of k + 1 literals and a 0.
-// An addition has outputs of all its inputs but the carry at bit 0, twice, and
-// of all its inputs at the other bits, twice but at the top; all that for two
-// runs.
+// An addition or subtraction has outputs of all its inputs but the carry at bit
+// 0, twice, and of all its inputs at the other bits, twice but at the top; a
+// shift has as many outputs of no input as its amount; all that for two runs.
 
-fn clause_count(kind: u8, width: usize) -> usize {
-    match kind {
+fn clause_count(record: &Record, width: usize) -> usize {
+    match record.kind {
         sheet::XOR => 2 * 4 * width,
-        sheet::ADD => 2 * (2 * 4 + (2 * width - 3) * 8),
+        sheet::ADD | sheet::SUBTRACT => 2 * (2 * 4 + (2 * width - 3) * 8),
         sheet::ADD_CONSTANT => 2 * (2 * 2 + (2 * width - 3) * 4),
+        sheet::SHIFT_LEFT | sheet::SHIFT_RIGHT => {
+            let filled = usize::from(record.amount);
+            2 * (filled + (width - filled) * 2)
+        }
         _ => 2 * 2 * width,
     }
 }
 
-fn list_length(kind: u8, width: usize) -> usize {
-    match kind {
+fn list_length(record: &Record, width: usize) -> usize {
+    match record.kind {
         sheet::XOR => 2 * 16 * width,
-        sheet::ADD => 2 * (2 * 16 + (2 * width - 3) * 40),
+        sheet::ADD | sheet::SUBTRACT => 2 * (2 * 16 + (2 * width - 3) * 40),
         sheet::ADD_CONSTANT => 2 * (2 * 6 + (2 * width - 3) * 16),
+        sheet::SHIFT_LEFT | sheet::SHIFT_RIGHT => {
+            let filled = usize::from(record.amount);
+            2 * (filled * 2 + (width - filled) * 6)
+        }
         _ => 2 * 6 * width,
     }
 }
@@ -161,8 +184,15 @@ impl Run<'_> {
             sheet::XOR_CONSTANT => self.write_xor_constant(first, record.constant, result, list),
             sheet::ROTATE_LEFT => self.write_rotation(first, width - amount, result, list),
             sheet::ROTATE_RIGHT => self.write_rotation(first, amount, result, list),
-            sheet::ADD => self.write_addition(first, self.word(record.second), result, list),
-            _ => self.write_constant_addition(first, record.constant, result, list),
+            sheet::ADD => {
+                self.write_addition(first, self.word(record.second), result, CARRIES, list)
+            }
+            sheet::ADD_CONSTANT => {
+                self.write_constant_addition(first, record.constant, result, list)
+            }
+            sheet::SHIFT_LEFT => self.write_shift_left(first, amount, result, list),
+            sheet::SHIFT_RIGHT => self.write_shift_right(first, amount, result, list),
+            _ => self.write_addition(first, self.word(record.second), result, BORROWS, list),
         }
     }
 
@@ -193,11 +223,40 @@ impl Run<'_> {
         }
     }
 
-    fn write_addition(&self, first: Word, second: Word, result: Word, list: &mut List) {
+    fn write_shift_left(&self, first: Word, amount: u32, result: Word, list: &mut List) {
+        for bit in 0..amount {
+            list.write_output([], result.literal(bit), ZERO);
+        }
+        for bit in amount..self.sheet.width() {
+            list.write_output([first.literal(bit - amount)], result.literal(bit), COPY);
+        }
+    }
+
+    fn write_shift_right(&self, first: Word, amount: u32, result: Word, list: &mut List) {
+        let width = self.sheet.width();
+        for bit in 0..width - amount {
+            list.write_output([first.literal(bit + amount)], result.literal(bit), COPY);
+        }
+        for bit in width - amount..width {
+            list.write_output([], result.literal(bit), ZERO);
+        }
+    }
+
+    /// An addition or a subtraction, by the tables of what it carries. Inlined,
+    /// so that these are constants at every output.
+    #[inline(always)]
+    fn write_addition(
+        &self,
+        first: Word,
+        second: Word,
+        result: Word,
+        [out_of_lowest, out_of_others]: [u32; 2],
+        list: &mut List,
+    ) {
         let top = self.sheet.width() - 1;
         let inputs = [first.literal(0), second.literal(0)];
         list.write_output(inputs, result.literal(0), XOR_OF_TWO);
-        list.write_output(inputs, self.carry_into(1), AND);
+        list.write_output(inputs, self.carry_into(1), out_of_lowest);
         for bit in 1..=top {
             let inputs = [
                 first.literal(bit),
@@ -206,7 +265,7 @@ impl Run<'_> {
             ];
             list.write_output(inputs, result.literal(bit), XOR_OF_THREE);
             if bit < top {
-                list.write_output(inputs, self.carry_into(bit + 1), MAJORITY);
+                list.write_output(inputs, self.carry_into(bit + 1), out_of_others);
             }
         }
     }

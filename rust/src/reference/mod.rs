@@ -1,4 +1,4 @@
-//! The trail checker in plain Rust, written from document 01 alone.
+//! The trail checker in plain Rust, written from documents 01 and 02 alone.
 //!
 //! The calls have the signatures and the order of refusals of the archive's
 //! calls at the root of this crate. They share no code with the archive, so

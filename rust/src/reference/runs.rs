@@ -1,6 +1,6 @@
 //! The run of two starting values.
 
-use super::line_report::{rotate_left, rotate_right};
+use super::line_report::{rotate_left, rotate_right, shift_left, shift_right};
 use super::refuse_unless;
 use super::sheet::{self, Record, Sheet};
 use crate::{Refusal, MAX_LINES};
@@ -57,7 +57,10 @@ impl Sheet<'_> {
             sheet::ROTATE_LEFT => rotate_left(first, amount, self.width()),
             sheet::ROTATE_RIGHT => rotate_right(first, amount, self.width()),
             sheet::ADD => first.wrapping_add(second),
-            _ => first.wrapping_add(record.constant),
+            sheet::ADD_CONSTANT => first.wrapping_add(record.constant),
+            sheet::SHIFT_LEFT => shift_left(first, amount, self.width()),
+            sheet::SHIFT_RIGHT => shift_right(first, amount),
+            _ => first.wrapping_sub(second),
         };
         result & self.mask()
     }

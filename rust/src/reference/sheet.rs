@@ -19,6 +19,9 @@ pub(super) const ROTATE_LEFT: u8 = 3;
 pub(super) const ROTATE_RIGHT: u8 = 4;
 pub(super) const ADD: u8 = 5;
 pub(super) const ADD_CONSTANT: u8 = 6;
+pub(super) const SHIFT_LEFT: u8 = 7;
+pub(super) const SHIFT_RIGHT: u8 = 8;
+pub(super) const SUBTRACT: u8 = 9;
 
 /// A sheet to which all sixteen questions had the answer yes.
 #[derive(Clone, Copy, Debug)]
@@ -56,11 +59,14 @@ impl Record {
     }
 
     fn names_two_words(&self) -> bool {
-        matches!(self.kind, XOR | ADD)
+        matches!(self.kind, XOR | ADD | SUBTRACT)
     }
 
-    fn rotates(&self) -> bool {
-        matches!(self.kind, ROTATE_LEFT | ROTATE_RIGHT)
+    fn has_amount(&self) -> bool {
+        matches!(
+            self.kind,
+            ROTATE_LEFT | ROTATE_RIGHT | SHIFT_LEFT | SHIFT_RIGHT
+        )
     }
 
     fn has_constant(&self) -> bool {
@@ -69,7 +75,7 @@ impl Record {
 
     fn unused_fields_are_zero(&self) -> bool {
         self.zero == 0
-            && (self.rotates() || self.amount == 0)
+            && (self.has_amount() || self.amount == 0)
             && (self.names_two_words() || self.second == 0)
             && (self.has_constant() || self.constant == 0)
     }
@@ -142,13 +148,13 @@ impl<'a> Sheet<'a> {
         let earlier = |word: u16| usize::from(word) < made;
         let mask = self.mask();
 
-        if !(XOR..=ADD_CONSTANT).contains(&record.kind) {
+        if !(XOR..=SUBTRACT).contains(&record.kind) {
             refuse(9, line)
         } else if !earlier(record.first) || record.names_two_words() && !earlier(record.second) {
             refuse(10, line)
-        } else if record.kind == ADD && record.first == record.second {
+        } else if matches!(record.kind, ADD | SUBTRACT) && record.first == record.second {
             refuse(11, line)
-        } else if record.rotates() && !(1..self.width).contains(&record.amount.into()) {
+        } else if record.has_amount() && !(1..self.width).contains(&record.amount.into()) {
             refuse(12, line)
         } else if record.has_constant() && record.constant > mask {
             refuse(13, line)

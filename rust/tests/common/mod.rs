@@ -158,20 +158,35 @@ impl Step {
             4 => Line::rotate_right(self.first, self.amount, self.difference),
             5 => Line::add(self.first, self.second, self.difference),
             6 => Line::add_constant(self.first, self.constant, self.difference),
+            7 => Line::shift_left(self.first, self.amount, self.difference),
+            8 => Line::shift_right(self.first, self.amount, self.difference),
+            9 => Line::subtract(self.first, self.second, self.difference),
             kind => panic!("there is no kind {kind}"),
         }
     }
 
-    pub fn is_addition(&self) -> bool {
-        self.kind >= 5
+    /// Whether the line has carries, or borrows in their place.
+    pub fn has_carries(&self) -> bool {
+        matches!(self.kind, 5 | 6 | 9)
     }
 
-    /// The two summands of an addition.
-    pub fn summands(&self, words: &[u64]) -> (u64, u64) {
+    /// What the line adds, or what it subtracts from what.
+    pub fn operands(&self, words: &[u64]) -> (u64, u64) {
         let first = words[usize::from(self.first)];
         match self.kind {
-            5 => (first, words[usize::from(self.second)]),
-            _ => (first, self.constant.into()),
+            6 => (first, self.constant.into()),
+            _ => (first, words[usize::from(self.second)]),
+        }
+    }
+
+    /// The carry or borrow into a bit.
+    pub fn carry(&self, words: &[u64], bit: u32) -> bool {
+        let below = 1 << bit;
+        let (first, second) = self.operands(words);
+        let (first, second) = (first % below, second % below);
+        match self.kind {
+            9 => first < second,
+            _ => first + second >= below,
         }
     }
 
@@ -189,8 +204,14 @@ impl Step {
             2 => first ^ u64::from(self.constant),
             3 => moved(amount),
             4 => moved(width - amount),
+            7 => (first << amount) % (1 << width),
+            8 => first >> amount,
+            9 => {
+                let (first, second) = self.operands(words);
+                ((1 << width) + first - second) % (1 << width)
+            }
             _ => {
-                let (first, second) = self.summands(words);
+                let (first, second) = self.operands(words);
                 (first + second) % (1 << width)
             }
         }
@@ -256,8 +277,8 @@ impl Program {
 
     pub fn variable_count(&self) -> usize {
         let width = self.width as usize;
-        let additions = self.steps.iter().filter(|step| step.is_addition()).count();
-        width * (self.inputs.len() + self.steps.len()) + 2 * (width - 1) * additions
+        let with_carries = self.steps.iter().filter(|step| step.has_carries()).count();
+        width * (self.inputs.len() + self.steps.len()) + 2 * (width - 1) * with_carries
     }
 
     /// The value of every variable, as the two runs from a start give it.
@@ -267,13 +288,9 @@ impl Program {
         for word in &runs[0] {
             values.extend((0..self.width).map(|bit| word >> bit & 1 == 1));
         }
-        for step in self.steps.iter().filter(|step| step.is_addition()) {
+        for step in self.steps.iter().filter(|step| step.has_carries()) {
             for words in &runs {
-                let (first, second) = step.summands(words);
-                values.extend((1..self.width).map(|bit| {
-                    let below = 1u64 << bit;
-                    first % below + second % below >= below
-                }));
+                values.extend((1..self.width).map(|bit| step.carry(words, bit)));
             }
         }
         values
@@ -321,25 +338,25 @@ pub fn random_program(
 }
 
 fn random_step(random: &mut Random, width: u32, words: usize) -> Step {
-    let mut kind = 1 + random.below(6) as u8;
-    if kind == 5 && words == 1 {
-        // One word has no other to be added to.
+    let mut kind = 1 + random.below(9) as u8;
+    if matches!(kind, 5 | 9) && words == 1 {
+        // One word has no other to be added to it or subtracted from it.
         kind = 6;
     }
     let first = random.below(words) as u16;
     let mut second = random.below(words) as u16;
-    while kind == 5 && second == first {
+    while matches!(kind, 5 | 9) && second == first {
         second = random.below(words) as u16;
     }
     Step {
         kind,
-        amount: if matches!(kind, 3 | 4) {
+        amount: if matches!(kind, 3 | 4 | 7 | 8) {
             1 + random.below(width as usize - 1) as u8
         } else {
             0
         },
         first,
-        second: if matches!(kind, 1 | 5) { second } else { 0 },
+        second: if matches!(kind, 1 | 5 | 9) { second } else { 0 },
         constant: if matches!(kind, 2 | 6) {
             random.difference(width)
         } else {
