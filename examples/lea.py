@@ -22,15 +22,11 @@ the sum before the rotation has the operand differences 00000040 and 00040400, a
 With 00008088, whose sum differs by 00040440, the trail can happen, at the weight of 8 bits that the table gives for the round.
 lea7.sheet has 00008088, and lea7_printed.sheet what is printed.
 """
-import struct
 from pathlib import Path
 
-FOLDER = Path(__file__).resolve().parent
+from sheets import ADD, ADD_CONSTANT, ROTATE_LEFT, ROTATE_RIGHT, XOR, Sheet, left, right
 
-# Sheets: blocks of 512 bytes, 31 records of 16 bytes in each block of lines.
-BLOCK, RECORD, RECORDS = 512, 16, 31
-XOR, ROTATE_LEFT, ROTATE_RIGHT, ADD, ADD_CONSTANT = 1, 3, 4, 5, 6
-WIDTH = 32
+FOLDER = Path(__file__).resolve().parent
 
 # LEA-128's key schedule constants, and the rotations of its four key words.
 DELTA = (0xC3EFE9DB, 0x44626B02, 0x79E27C8A, 0x78DF30EC)
@@ -59,36 +55,6 @@ STATES = ((0x80000000, 0x40000000, 0xC0000010, 0x4000000C),
           (0x08080800, 0x00000000, 0x00000040, 0x00040400),
           (0x10101010, 0x00000002, 0x00080808, 0x08080800))
 CORRECTED = STATES[:6] + ((0x10101010, 0x00000002, 0x00008088, 0x08080800),)
-
-
-def left(word, places):
-    places %= WIDTH
-    return (word << places | word >> (WIDTH - places)) % 2**WIDTH
-
-
-def right(word, places):
-    return left(word, WIDTH - places)
-
-
-class Sheet:
-    """Words with their differences, and the lines that make all but the inputs."""
-
-    def __init__(self, inputs):
-        self.inputs, self.differences, self.records = inputs, list(inputs), []
-
-    def line(self, kind, difference, first, second=0, amount=0, constant=0):
-        """The word that one more line makes."""
-        self.records.append(struct.pack("<BBHHHII", kind, amount, first, second, 0, constant, difference))
-        self.differences.append(difference)
-        return len(self.differences) - 1
-
-    def sealed(self):
-        """The sheet's bytes, with every block's check: the sum of its other numbers and its index."""
-        header = struct.pack(f"<4sBBH{len(self.inputs)}I", b"ARXT", WIDTH, len(self.inputs), len(self.records), *self.inputs)
-        blocks = [header] + [b"".join(self.records[i:i + RECORDS]) for i in range(0, len(self.records), RECORDS)]
-        padded = [block.ljust(BLOCK - 4, b"\0") for block in blocks]
-        checks = [(sum(struct.unpack("<127I", block)) + index) % 2**32 for index, block in enumerate(padded)]
-        return b"".join(block + struct.pack("<I", check) for block, check in zip(padded, checks))
 
 
 def key_word(sheet, word, constant, places, difference):
