@@ -15,3 +15,4 @@ pub mod ReadWords
 pub mod EndsInZero
 pub mod Demand3
 pub mod Example
+pub mod ExampleShiftSubtract

@@ -43,7 +43,7 @@ taken-within shiftsLeft n r i h = at (ltb i r)
 taken-within shiftsRight n r i h = at (ltb (i + r) n) refl
   where
     at : (b : Bool) → ltb (i + r) n ≡ b → Within n (cond b (bitAt (i + r)) noBit)
-    at true e = ltb-true (i + r) n e
+    at true e = omega (arith, ltb-true (i + r) n e)
     at false e = tt
 taken-within subtractWords n r i h = h
 taken-within unknown n r i h = tt
