@@ -137,7 +137,7 @@ def accepted_sheets():
     add("all_kinds", trail(8, 2, 12), ("report", "clauses"))
     add("largest", largest(), ("report", "header"))
     assert answers[-2].endswith("\ntotal 0 123008 0\n") and answers[-1].endswith(":\np cnf 23568 246016\n")
-    for name, total in (("lea7", "total 0 622 6"), ("lea7_printed", "total 1 574 6")):
+    for name, total in (("lea7", "total 0 622 6"), ("lea7_printed", "total 1 574 6"), ("xtea27", "total 0 786 12")):
         add(name, (ROOT / "examples" / f"{name}.sheet").read_bytes(), ("report",))
         assert answers[-1].endswith(f"\n{total}\n")
 
