@@ -1,7 +1,7 @@
 // Arithmetic of n-bit words, for every width n from 1 to 64.
 ghost use mathlib.Core.Path.{_≡_};
 ghost use Prim.Native.Nat.{_-_, _^_, _≤_, _<_};
-ghost use Rattle.words.specs.Words.{bit as Words·bit, isWord, sumModulo, differenceModulo, rotateLeft, rotateRight, shiftLeft, shiftRight};
+ghost use Rattle.words.specs.Words.{bit as Words·bit, isWord, sumModulo, minusModulo, rotateLeft, rotateRight, shiftLeft, shiftRight};
 
 // 2^n - 1: the largest word.
 pub fn mask(n: u32) -> u64
@@ -38,7 +38,7 @@ pub fn add(n: u32, x: u64, y: u64) -> u64
 // The difference modulo 2^n.
 pub fn subtract(n: u32, x: u64, y: u64) -> u64
     requires { ⌜ (1 ≤ n) × (n ≤ 64) ⌝ }
-    ensures { λ r. ⌜ r ≡ differenceModulo n x y ⌝ }
+    ensures { λ r. ⌜ r ≡ minusModulo n x y ⌝ }
 {
     std::num::wrapping_sub_u64(x, y) & mask(n)
 }

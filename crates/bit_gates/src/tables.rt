@@ -1,6 +1,6 @@
 // The tables of a line's gates: bit t of a table is the output at the inputs' row t, the first input as highest bit. A constant's
-// bit and the carry into bit 0 are no literals: they choose the table. Where it is all one which inputs are 1, the lower rows of a
-// table serve for fewer than three literals.
+// bit, the carry into bit 0 and a filled zero are no literals: they choose the table. Where only the number of ones counts, the lower
+// rows of a table serve for fewer than three literals.
 ghost use mathlib.Core.Path.{_≡_};
 ghost use mathlib.Core.Bool.{true};
 ghost use Prim.Native.Nat.{_<_};
@@ -19,9 +19,9 @@ const ONE_OR_MORE: u32 = 0b1111_1110;
 
 const TWO_OR_MORE: u32 = 0b1110_1000;
 
-const LESS_THAN_TWO: u32 = 0b1000_1110;
+const BORROW: u32 = 0b1000_1110;
 
-const LESS_THAN_ONE: u32 = 0b0010;
+const BORROW_FROM_LOWEST: u32 = 0b0010;
 
 // The result's bit i: the XOR of its inputs.
 pub(crate) fn result_table(run: LineRun, i: u32) -> u32
@@ -41,7 +41,7 @@ pub(crate) fn carry_table(run: LineRun, i: u32) -> u32
     let line = run.line;
     let kind = line.kind;
     match kind {
-        9 => { if i == 0 { LESS_THAN_ONE } else { LESS_THAN_TWO } }
+        9 => { if i == 0 { BORROW_FROM_LOWEST } else { BORROW } }
         _ => {
             if bit(line.constant, i) {
                 ONE_OR_MORE

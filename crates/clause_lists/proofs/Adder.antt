@@ -2,15 +2,15 @@
 -- or borrows, and only those do.
 use mathlib.Core.Path.{_≡_, refl, sym, ap, _∙_}
 use mathlib.Core.Logic.{_↔_}
-use mathlib.Core.Bool.{Bool, true, false, xor}
+use mathlib.Core.Bool.{Bool, false, xor}
 use mathlib.Core.List.{List, [], _∷_}
 use Prim.Native.Nat.{ℕ, zero, suc, _^_, _<_}
 use native.Mathlib.Omega.{arith}
-use Rattle.words.specs.Words.{bit, fromBits, sumModulo, differenceModulo, carryInto, borrowInto, majority}
+use Rattle.words.specs.Words.{bit, fromBits, sumModulo, minusModulo, carryInto, borrowInto, majority}
 use Rattle.words.proofs.TruthTables.{by-table}
 use Rattle.words.proofs.Bits.{fromBits-lt, bit-fromBits, word-ext, xor-comm, false-xor}
 use Rattle.words.proofs.Sums.{sumModulo-lt, carry-zero, carry-suc, bit-sumModulo}
-use Rattle.words.proofs.Subtraction.{differenceModulo-lt, difference-back, sum-back, borrow-zero, borrow-carry}
+use Rattle.words.proofs.Subtraction.{minusModulo-lt, minus-back, sum-back, borrow-zero, borrow-carry}
 use Rattle.clause_lists.specs.Kinds.{parity, ones, twoOrMore, lessThan}
 
 pub parity-one : (a : Bool) → parity (a ∷ []) ≡ a
@@ -85,8 +85,8 @@ module _ (n x y : ℕ) (r c : ℕ → Bool) where
           → (i : ℕ) → i < n → suc i < n → c (suc i) ≡ twoOrMore (bit x i ∷ bit y i ∷ c i ∷ [])
       next h i l more = h .1 (suc i) more ∙ sym (next-carry i (h .1 i l))
 
-pub sums-carry : (n : ℕ) → Carrying n twoOrMore carryInto (sumModulo n)
-sums-carry n = record {
+pub sum-carries : (n : ℕ) → Carrying n twoOrMore carryInto (sumModulo n)
+sum-carries n = record {
   word-lt = sumModulo-lt n;
   carry-none = carry-zero;
   tied-iff = λ x y hx r c none. adder-iff n x y r c none;
@@ -120,27 +120,27 @@ module _ (n x y : ℕ) (hx : x < 2 ^ n) (r c : ℕ → Bool) where
   abbrev AddsUp : Type 0
   AddsUp = ((i : ℕ) → i < n → bit x i ≡ bit (sumModulo n z y) i) × ((i : ℕ) → i < n → c i ≡ carryInto z y i)
 
-  abbrev IsDifference : Type 0
-  IsDifference = ((i : ℕ) → i < n → r i ≡ bit (differenceModulo n x y) i) × ((i : ℕ) → i < n → c i ≡ borrowInto x y i)
+  abbrev IsMinus : Type 0
+  IsMinus = ((i : ℕ) → i < n → r i ≡ bit (minusModulo n x y) i) × ((i : ℕ) → i < n → c i ≡ borrowInto x y i)
 
-  borrows : z ≡ differenceModulo n x y → (i : ℕ) → i < n → carryInto z y i ≡ borrowInto x y i
+  borrows : z ≡ minusModulo n x y → (i : ℕ) → i < n → carryInto z y i ≡ borrowInto x y i
   borrows e i l = ap (λ (w : ℕ). carryInto w y i) e ∙ borrow-carry n x y i (omega arith)
 
-  turned-back : AddsUp ↔ IsDifference
+  turned-back : AddsUp ↔ IsMinus
   turned-back = (
     λ h.
         let sum : x ≡ sumModulo n z y = word-ext n x (sumModulo n z y) hx (sumModulo-lt n z y) (h .0) in
-        let e : z ≡ differenceModulo n x y =
-        sym (ap (λ (w : ℕ). differenceModulo n w y) sum ∙ sum-back n z y (fromBits-lt n r)) in
+        let e : z ≡ minusModulo n x y =
+        sym (ap (λ (w : ℕ). minusModulo n w y) sum ∙ sum-back n z y (fromBits-lt n r)) in
         (λ i l. sym (bit-z i l) ∙ ap (λ (w : ℕ). bit w i) e, λ i l. h .1 i l ∙ borrows e i l),
     λ h.
-        let e : z ≡ differenceModulo n x y =
-        word-ext n z (differenceModulo n x y) (fromBits-lt n r) (differenceModulo-lt n x y) (λ i l. bit-z i l ∙ h .0 i l) in
-        let sum : sumModulo n z y ≡ x = ap (λ (w : ℕ). sumModulo n w y) e ∙ difference-back n x y hx in
+        let e : z ≡ minusModulo n x y =
+        word-ext n z (minusModulo n x y) (fromBits-lt n r) (minusModulo-lt n x y) (λ i l. bit-z i l ∙ h .0 i l) in
+        let sum : sumModulo n z y ≡ x = ap (λ (w : ℕ). sumModulo n w y) e ∙ minus-back n x y hx in
         (λ i l. ap (λ (w : ℕ). bit w i) (sym sum), λ i l. h .1 i l ∙ sym (borrows e i l)),
   )
 
-  subtractor-iff : c 0 ≡ false → ((i : ℕ) → i < n → BitTied n lessThan x y r c i) ↔ IsDifference
+  subtractor-iff : c 0 ≡ false → ((i : ℕ) → i < n → BitTied n lessThan x y r c i) ↔ IsMinus
   subtractor-iff none = (
     λ h. turned-back .0 (adder .0 (λ i l. turned i l .0 (h i l))),
     λ h i l. turned i l .1 (adder .1 (turned-back .1 h) i l),
@@ -149,9 +149,9 @@ module _ (n x y : ℕ) (hx : x < 2 ^ n) (r c : ℕ → Bool) where
       adder : ((i : ℕ) → i < n → BitTied n twoOrMore z y (bit x) c i) ↔ AddsUp
       adder = adder-iff n z y (bit x) c none
 
-pub differences-borrow : (n : ℕ) → Carrying n lessThan borrowInto (differenceModulo n)
-differences-borrow n = record {
-  word-lt = differenceModulo-lt n;
+pub minus-borrows : (n : ℕ) → Carrying n lessThan borrowInto (minusModulo n)
+minus-borrows n = record {
+  word-lt = minusModulo-lt n;
   carry-none = λ x y. borrow-zero x y;
   tied-iff = λ x y hx r c none. subtractor-iff n x y hx r c none;
 }

@@ -1,7 +1,7 @@
 -- How many clauses a line has, and how many numbers its list: one law for every size that adds up, by how many literals the inputs of
 -- each gate have.
 use mathlib.Core.Path.{_≡_, refl, sym, ap, ap₂, _∙_}
-use mathlib.Core.Bool.{Bool, true, false, not, _&&_, _||_, cond, true≢false, false≢true}
+use mathlib.Core.Bool.{Bool, true, false, not, _||_, cond, true≢false}
 use mathlib.Core.List.{List, [], _∷_, _++_}
 use Prim.Native.Nat.{ℕ, zero, suc, _+_, _-_, _*_, _≤_, _<_}
 use native.Mathlib.Nat.{add-zero, mul-zero, mul-add, add-mul, mul-assoc, mul-comm}
@@ -18,7 +18,7 @@ use Rattle.trail.specs.declared.Line.{Line}
 use Rattle.trail.specs.Kinds.{Kind, kindOf, usesSecond, usesConstant}
 use Rattle.trail.specs.Trail.{Trail, inputCount, lineCount, lineAt}
 use Rattle.trail.specs.WellFormed.{WellFormed}
-use Rattle.trail.proofs.KindNumbers.{lastKind, every-kind, known-within}
+use Rattle.trail.proofs.KindNumbers.{lastKind, never-both, known-within}
 use Rattle.cnf.specs.Formulas.{numbers}
 use Rattle.cnf.specs.Gates.{Input, literals, gate}
 use Rattle.cnf.specs.Gates.Input.{known, literal}
@@ -73,13 +73,7 @@ lowest second = suc (value second)
 whole-bits : (k n r i : ℕ) → 1 ≤ k → k ≤ lastKind → (usesSecond (kindOf k) || hasCarries (kindOf k)) ≡ true
     → isFilled (gates (kindOf k) .taken n r i) ≡ false
 unfolding kindOf
-whole-bits k n r i least most e =
-    at (isFilled (gates (kindOf k) .taken n r i))
-    (rw e at (every-kind (λ q. not ((usesSecond q || hasCarries q) && isFilled (gates q .taken n r i))) refl k least most))
-  where
-    at : (b : Bool) → not (true && b) ≡ true → b ≡ false
-    at true h = absurd (false≢true h)
-    at false h = refl
+whole-bits k n r i = never-both (λ q. usesSecond q || hasCarries q) (λ q. isFilled (gates q .taken n r i)) refl k
 
 module _ (l : Line) (word : ℕ → ℕ → ℤ) (carry : ℕ → ℤ) where
   taken-literals : (p : Taken) (is : List Input)

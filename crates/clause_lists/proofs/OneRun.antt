@@ -3,7 +3,7 @@ use mathlib.Core.Path.{_≡_, refl, sym, ap, ap₂, subst, _∙_}
 use mathlib.Core.Logic.{_↔_}
 use mathlib.Core.Bool.{Bool, true, false, _&&_, cond, xor, and-eq-true-iff, true≢false, false≢true}
 use mathlib.Core.List.{List, [], _∷_, _++_, map}
-use Prim.Native.Nat.{ℕ, zero, suc, _+_, _-_, _%_, _^_, _≤_, _<_}
+use Prim.Native.Nat.{ℕ, zero, suc, _+_, _-_, _^_, _≤_, _<_}
 use native.Mathlib.Nat.{add-comm}
 use native.Mathlib.Numerals.{add-one}
 use native.Mathlib.Omega.{arith}
@@ -30,7 +30,7 @@ use Rattle.clause_lists.specs.Kinds.Taken.{bitAt, noBit}
 use Rattle.clause_lists.specs.Kinds.Carries.{none, made}
 use Rattle.clause_lists.specs.Lists.{inputs, nextClauses, bitClauses, runClauses}
 use Rattle.clause_lists.specs.Assignments.{secondSummand, carried}
-use Rattle.clause_lists.proofs.Adder.{parity-one, parity-two, BitTied, Carrying, sums-carry, differences-borrow}
+use Rattle.clause_lists.proofs.Adder.{parity-one, parity-two, BitTied, Carrying, sum-carries, minus-borrows}
 use Rattle.clause_lists.proofs.RunLiterals.{Within, taken-within, Literals, every-input}
 
 -- the word of n bits that literals read
@@ -237,6 +237,12 @@ module _ (v : ℕ → Bool) {n j : ℕ} {l : Line} {word : ℕ → ℕ → ℤ} 
       at true e = ap (bit x) (add-comm i (l .amount))
       at false e = sym (bit-past n x (l .amount + i) (read-lt (l .first)) (omega (arith, ltb-false (i + l .amount) n e)))
 
+  -- of two words
+  words-read : (i : ℕ) → i < n → valuesAs addWords i ≡ bit x i ∷ bit y i ∷ carryValue i ∷ []
+  unfolding inputValue
+  words-read i h =
+      ap₂ (λ (a b : Bool). a ∷ b ∷ carryValue i ∷ []) (read-bit (l .first) i h) (read-bit (l .second) i h)
+
   kind-iff : (q : Kind) → kindOf (l .kind) ≡ q → KindIff q
   unfolding inputValue
   kind-iff xorWords e =
@@ -260,19 +266,13 @@ module _ (v : ℕ → Bool) {n j : ℕ} {l : Line} {word : ℕ → ℕ → ℤ} 
       sym
       (bit-rotateRight n (l .amount) x i (good .amount-least (ap usesAmount e)) (good .amount-most (ap usesAmount e))
       (read-lt (l .first)) h))
-  kind-iff addWords e =
-      carried-iff (sums-carry n) y (valuesAs addWords)
-      (λ i h.
-      ap₂ (λ (a b : Bool). a ∷ b ∷ carryValue i ∷ []) (read-bit (l .first) i h) (read-bit (l .second) i h))
+  kind-iff addWords e = carried-iff (sum-carries n) y (valuesAs addWords) words-read
   kind-iff addConstant e =
-      carried-iff (sums-carry n) (l .constant) (valuesAs addConstant)
+      carried-iff (sum-carries n) (l .constant) (valuesAs addConstant)
       (λ i h. ap (λ (b : Bool). b ∷ bit (l .constant) i ∷ carryValue i ∷ []) (read-bit (l .first) i h))
   kind-iff shiftsLeft e = moved-iff shiftsLeft e (λ i h. left-value i ∙ sym (bit-shiftLeft n (l .amount) x i h))
   kind-iff shiftsRight e = moved-iff shiftsRight e (λ i h. right-value i ∙ sym (bit-shiftRight (l .amount) x i))
-  kind-iff subtractWords e =
-      carried-iff (differences-borrow n) y (valuesAs subtractWords)
-      (λ i h.
-      ap₂ (λ (a b : Bool). a ∷ b ∷ carryValue i ∷ []) (read-bit (l .first) i h) (read-bit (l .second) i h))
+  kind-iff subtractWords e = carried-iff (minus-borrows n) y (valuesAs subtractWords) words-read
   kind-iff unknown e = absurd (good .kind-known e)
 
   -- the carries' values, as the statement has them

@@ -43,7 +43,7 @@ isFilled noBit = true
 -- into bit i of summands x and y. A borrow replaces the carry: its x and y are the first word and the second.
 pub data Carries : Type 0 where
   none : Carries
-  made : (List Bool → Bool) → (ℕ → ℕ → ℕ → Bool) → Carries
+  made : (next : List Bool → Bool) (value : ℕ → ℕ → ℕ → Bool) → Carries
 
 -- What a kind says of the gates of its lines: which bit of the first operand bit i takes, at width n and with the line's amount, and
 -- its carries.
@@ -67,7 +67,7 @@ gates unknown = record { taken = λ n r i. noBit; carries = none }
 
 abbrev pub someCarries : Carries → Bool
 someCarries none = false
-someCarries (made next carried) = true
+someCarries (made next value) = true
 
 abbrev pub hasCarries : Kind → Bool
 hasCarries q = someCarries (gates q .carries)
@@ -92,7 +92,7 @@ carryInput carry (suc i) = literal (carry (suc i))
 
 abbrev pub carryInputs : Carries → (ℕ → ℤ) → ℕ → List Input
 carryInputs none carry i = []
-carryInputs (made next carried) carry i = carryInput carry i ∷ []
+carryInputs (made next value) carry i = carryInput carry i ∷ []
 
 -- the inputs of bit i: first operand, second operand, carry
 abbrev pub inputsAs : Kind → ℕ → Line → (ℕ → ℕ → ℤ) → (ℕ → ℤ) → ℕ → List Input

@@ -24,7 +24,7 @@ module _ (n j : ℕ) (l : Line) (word : ℕ → ℕ → ℤ) (carry : ℕ → �
   -- the next carry of bit i, out of the kind's carries
   abbrev pub nextClauses : Carries → ℕ → List (List ℤ)
   nextClauses none i = []
-  nextClauses (made next carried) i = gate next (inputs i) (carry (i + 1))
+  nextClauses (made next value) i = gate next (inputs i) (carry (i + 1))
 
   -- a bit: result before next carry (none out of bit n - 1)
   unfoldable pub bitClauses : ℕ → List (List ℤ)

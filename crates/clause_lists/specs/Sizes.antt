@@ -19,7 +19,7 @@ filledBits n l = count n (λ i. isFilled (gates (kindOf (l .kind)) .taken n (l .
 
 -- Of both runs, with or without a second operand, then with or without carries: without carries a gate for each bit, which has no
 -- literal among its inputs where a zero is filled in for the first operand; with carries two in bit 0, which no carry enters, and
--- two in each bit above but for the last, which has one.
+-- two in each bit above but for the last, which has one. A zero is filled in for no kind with a second operand or with carries.
 abbrev pub gatesAs : Bool → Bool → ℕ → ℕ → GateCounts
 gatesAs false false n filled = record { none = 2 * filled; one = 2 * (n - filled); two = 0; three = 0 }
 gatesAs true false n filled = record { none = 0; one = 0; two = 2 * n; three = 0 }

@@ -13,7 +13,7 @@ use Rattle.trail.specs.declared.Line.{Line}
 use Rattle.trail.specs.Kinds.{kindOf}
 use Rattle.trail.specs.WellFormed.{WellFormedLine}
 use Rattle.trail.proofs.KindNumbers.{known-within}
-use Rattle.trail.proofs.KindTests.{amount-used-above}
+use Rattle.trail.proofs.KindTests.{amount-of-shift}
 use Rattle.clause_lists.specs.Kinds.{isFilled, gates}
 use Rattle.clause_lists.specs.Sizes.{filledBits}
 use Rattle.run_literals.proofs.KindRows.{unfilled, left-filled, right-filled}
@@ -58,7 +58,7 @@ module _ (n : ℕ) (l : Line) where
   shifts-fill good least most = (sym (at (ℕ-discrete (l .kind) 7)), within)
     where
       within : r ≤ n
-      within = omega (arith, good .amount-most (amount-used-above (l .kind) least most))
+      within = omega (arith, good .amount-most (amount-of-shift (l .kind) least most))
 
       at : Dec (l .kind ≡ 7) → filledBits n l ≡ r
       at (yes e) = left-shift-fills e within

@@ -7,7 +7,8 @@ use lib.IntN.{ℤ, negℤ}
 use Rattle.words.specs.Words.{bit}
 use Rattle.words.specs.Below.{concat}
 
--- An input is a literal or a value that is known: constants and the carry into bit 0 are no literals.
+-- An input is a literal or a value that is known: constants, the carry into bit 0 and filled zeros (document 02, W-201) are no
+-- literals.
 pub data Input : Type 0 where
   known : Bool → Input
   literal : ℤ → Input

@@ -10,7 +10,7 @@ use Rattle.differential.specs.Report.{Reporting, reporting}
 use Rattle.differential.specs.Report.Reporting.{linear, twoWords, constant, none}
 use Rattle.differential.specs.Demand2.{Proper}
 use Rattle.differential.proofs.Linear.{Linear, xor-words, xor-constant, rotate-left, rotate-right, shift-left, shift-right}
-use Rattle.differential.proofs.Turning.{FitsAs, sum-fits, difference-fits}
+use Rattle.differential.proofs.Turning.{FitsAs, sum-fits, minus-fits}
 
 -- ---- the word that a line makes
 
@@ -32,7 +32,7 @@ module _ (d : Differential) where
   row-says addConstant e = λ x y. refl
   row-says shiftsLeft e = λ proper. shift-left proper
   row-says shiftsRight e = λ proper. shift-right proper
-  row-says subtractWords e = λ proper. difference-fits proper
+  row-says subtractWords e = λ proper. minus-fits proper
   row-says unknown e = λ proper. proper .line-right .kind-known e
 
   pub says : {p : Reporting} → reporting (kindOf (d .line .kind)) ≡ p → Says p d (makes (d .width) (d .line))

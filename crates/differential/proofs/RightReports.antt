@@ -1,7 +1,7 @@
 -- Each of the four reports is right where what it says is true and the line's kind is reported so.
-use mathlib.Core.Path.{_≡_, refl, sym, _∙_}
+use mathlib.Core.Path.{_≡_, refl, sym, ap, _∙_}
 use mathlib.Core.Logic.{_↔_, _≢_, inl, inr}
-use mathlib.Core.Bool.{true, false, true≢false}
+use mathlib.Core.Bool.{true, false, true≢false, false≢true}
 use Prim.Native.Nat.{ℕ, _-_, _*_, _^_, _<_}
 use native.Mathlib.Omega.{arith}
 use lib.Pow.{pow-pos}
@@ -10,7 +10,7 @@ use Rattle.words.proofs.Pairs.{pairs-none}
 use Rattle.trail.specs.Kinds.{kindOf}
 use Rattle.differential.specs.declared.Differential.{Differential}
 use Rattle.differential.specs.Fits.{fits, fitting, fittingPairs}
-use Rattle.differential.specs.Report.{impossible, certain, halves, counted, Addition, reporting}
+use Rattle.differential.specs.Report.{impossible, certain, halves, counted, Addition, isLinear, isTwoWords, reporting}
 use Rattle.differential.specs.Report.Reporting.{linear, twoWords, constant}
 use Rattle.differential.specs.Demand2.{CountedRight, RightReport}
 
@@ -26,8 +26,8 @@ module _ (d : Differential) where
     counted-right = λ e. absurd (omega arith);
     counted-fitting = λ e. absurd (omega arith);
     number-most = omega arith;
-    linear-number = λ _ _. inl refl;
-    words-number = λ _ _. inl refl;
+    linear-number = λ _. inl refl;
+    words-number = λ _. inl refl;
     constant-number = λ _. inl refl;
   }
 
@@ -47,8 +47,8 @@ module _ (d : Differential) where
     counted-right = λ e. absurd (omega arith);
     counted-fitting = λ e. absurd (omega arith);
     number-most = omega arith;
-    linear-number = λ _ _. inr refl;
-    words-number = λ _ other. inl (cc);
+    linear-number = λ _. inr refl;
+    words-number = λ other. absurd (false≢true (sym (ap isTwoWords how) ∙ other));
     constant-number = λ other. inl (cc);
   }
     where
@@ -67,8 +67,8 @@ module _ (d : Differential) where
     counted-right = λ e. absurd (omega arith);
     counted-fitting = λ e. absurd (omega arith);
     number-most = omega arith;
-    linear-number = λ _ other. inl (cc);
-    words-number = λ _ _. inr refl;
+    linear-number = λ other. absurd (false≢true (sym (ap isLinear how) ∙ other));
+    words-number = λ _. inr refl;
     constant-number = λ other. inl (cc);
   }
 
@@ -85,7 +85,7 @@ module _ (d : Differential) where
     counted-right = λ _. right;
     counted-fitting = λ _. refl;
     number-most = omega arith;
-    linear-number = λ _ other. inl (cc);
-    words-number = λ _ other. inl (cc);
+    linear-number = λ other. absurd (false≢true (sym (ap isLinear how) ∙ other));
+    words-number = λ other. absurd (false≢true (sym (ap isTwoWords how) ∙ other));
     constant-number = λ _. inr refl;
   }

@@ -7,12 +7,12 @@ use Prim.Native.Nat.{ℕ, _^_, _<_}
 use borrow.Author.Tests.{eqb-true, eq-eqb}
 use lib.Bits.{bitXor, xor-comm, xor-lt}
 use lib.Dec.{eqb}
-use Rattle.words.specs.Words.{sumModulo, differenceModulo}
+use Rattle.words.specs.Words.{sumModulo, minusModulo}
 use Rattle.words.proofs.Bits.{bitXor-cancel}
 use Rattle.words.proofs.Bijection.{Leads, equal-pairs}
 use Rattle.words.proofs.Pairs.{pairs}
 use Rattle.words.proofs.Sums.{sumModulo-lt}
-use Rattle.words.proofs.Subtraction.{differenceModulo-lt, difference-back, sum-back}
+use Rattle.words.proofs.Subtraction.{minusModulo-lt, minus-back, sum-back}
 use Rattle.differential.specs.declared.Differential.{Differential}
 use Rattle.differential.specs.Report.{Addition, ownAddition, turningBack}
 use Rattle.differential.specs.Demand2.{Proper}
@@ -26,10 +26,10 @@ pub record TurnsBack (n : ℕ) (f g : ℕ → ℕ → ℕ) : Type 0 where
   pub word : (x y : ℕ) → f x y < 2 ^ n
   pub back : (x y : ℕ) → x < 2 ^ n → g (f x y) y ≡ x
 
-pub difference-turns : (n : ℕ) → TurnsBack n (differenceModulo n) (sumModulo n)
-difference-turns n = record { word = differenceModulo-lt n; back = difference-back n }
+pub minus-turns : (n : ℕ) → TurnsBack n (minusModulo n) (sumModulo n)
+minus-turns n = record { word = minusModulo-lt n; back = minus-back n }
 
-pub sum-turns : (n : ℕ) → TurnsBack n (sumModulo n) (differenceModulo n)
+pub sum-turns : (n : ℕ) → TurnsBack n (sumModulo n) (minusModulo n)
 sum-turns n = record { word = sumModulo-lt n; back = sum-back n }
 
 module _ {n : ℕ} {f g : ℕ → ℕ → ℕ} (turns : TurnsBack n f g) (α β γ : ℕ) (hα : α < 2 ^ n) where
@@ -79,11 +79,11 @@ module _ {d : Differential} (proper : Proper d) where
   pub sum-fits : FitsAs d (sumModulo (d .width)) (ownAddition d)
   sum-fits = record { result-word = proper .line-right .difference-word; as-many = refl }
 
-  pub difference-fits : FitsAs d (differenceModulo (d .width)) (turningBack d)
-  difference-fits = record {
+  pub minus-fits : FitsAs d (minusModulo (d .width)) (turningBack d)
+  minus-fits = record {
     result-word = proper .first-word;
     as-many =
-        pairs-turned (difference-turns (d .width)) (sum-turns (d .width)) (d .first) (d .second) (d .line .difference)
+        pairs-turned (minus-turns (d .width)) (sum-turns (d .width)) (d .first) (d .second) (d .line .difference)
         (proper .first-word)
         (proper .line-right .difference-word);
   }

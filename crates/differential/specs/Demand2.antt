@@ -8,8 +8,8 @@ use Rattle.trail.specs.Kinds.{kindOf}
 use Rattle.differential.specs.declared.Differential.{Differential}
 use Rattle.differential.specs.Fits.{fits, fitting, fittingPairs}
 use Rattle.differential.specs.Unit.{unit, slack}
-use Rattle.differential.specs.Report.{Report, Addition, reporting, reportOf}
-use Rattle.differential.specs.Report.Reporting.{linear, twoWords, constant}
+use Rattle.differential.specs.Report.{Report, isLinear, isTwoWords, reporting, reportOf}
+use Rattle.differential.specs.Report.Reporting.{constant}
 
 -- the differences are words of the line's width, and the line is well-formed
 pub record Proper (d : Differential) : Type 0 where
@@ -43,8 +43,8 @@ pub record RightReport (d : Differential) (r : Report) : Type 0 where
   pub counted-right : r .number ≡ 3 → CountedRight (d .width) (fitting d) (r .weight) (r .chains)
   pub counted-fitting : r .number ≡ 3 → r .fitting ≡ fitting d
   pub number-most : r .number ≤ 3
-  pub linear-number : (given : Differential → ℕ) → reporting (kindOf (d .line .kind)) ≡ linear given → (r .number ≡ 0) ⊎ (r .number ≡ 1)
-  pub words-number : (sum : Differential → Addition) → reporting (kindOf (d .line .kind)) ≡ twoWords sum → (r .number ≡ 0) ⊎ (r .number ≡ 2)
+  pub linear-number : isLinear (reporting (kindOf (d .line .kind))) ≡ true → (r .number ≡ 0) ⊎ (r .number ≡ 1)
+  pub words-number : isTwoWords (reporting (kindOf (d .line .kind))) ≡ true → (r .number ≡ 0) ⊎ (r .number ≡ 2)
   pub constant-number : reporting (kindOf (d .line .kind)) ≡ constant → (r .number ≡ 0) ⊎ (r .number ≡ 3)
 
 -- Demand 2 for every line by itself

@@ -19,7 +19,7 @@ pub fn word_made(n: u32, line: Line, x: u64, y: u64) -> u64
         5..=6 => arithmetic::add(n, x, other_input(line, y)),
         7 => arithmetic::shift_left(n, line.amount, x),
         8 => arithmetic::shift_right(line.amount, x),
-        9 => arithmetic::subtract(n, x, y),
+        9 => arithmetic::subtract(n, x, other_input(line, y)),
         _ => 0,
     }
 }

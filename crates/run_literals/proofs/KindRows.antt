@@ -1,7 +1,7 @@
 -- What the kinds' rows say that the writer rests on, each computed over the kinds' numbers.
 use mathlib.Core.Path.{_≡_, refl}
 use mathlib.Core.Logic.{_≢_, _⊎_, inl, inr}
-use mathlib.Core.Bool.{Bool, true, false, cond, _&&_, not, true≢false}
+use mathlib.Core.Bool.{Bool, true, false, cond, true≢false}
 use Prim.Native.Nat.{ℕ, _+_, _-_, _≤_, _<_}
 use native.Mathlib.Decide.{decLt}
 use native.Mathlib.Omega.{arith}
@@ -9,7 +9,7 @@ use borrow.Author.Tests.{ltb-true, ltb-false, le-leb, lt-leb}
 use lib.Dec.{ltb, leb}
 use Rattle.words.specs.Words.{carryInto}
 use Rattle.trail.specs.Kinds.{kindOf, usesSecond, usesAmount, usesConstant}
-use Rattle.trail.proofs.KindNumbers.{at-key, in-range, lastKind, with-number, every-kind}
+use Rattle.trail.proofs.KindNumbers.{at-key, in-range, lastKind, with-number, never-both}
 use Rattle.clause_lists.specs.Kinds.{isFilled, gates, hasCarries, twoOrMore}
 use Rattle.clause_lists.specs.Kinds.Taken.{bitAt, noBit}
 use Rattle.clause_lists.specs.Kinds.Carries.{made}
@@ -76,11 +76,7 @@ right-taken k n r i e = at-key (λ q. isFilled (gates q .taken n r i) ≡ false 
 -- no kind has a constant beside a second operand
 pub no-constant : (k : ℕ) → 1 ≤ k → k ≤ lastKind → usesSecond (kindOf k) ≡ true → usesConstant (kindOf k) ≡ false
 unfolding kindOf
-no-constant k least most e = at (usesConstant (kindOf k)) (rw e at (every-kind (λ q. not (usesSecond q && usesConstant q)) refl k least most))
-  where
-    at : (b : Bool) → not (true && b) ≡ true → b ≡ false
-    at true h = absurd (true≢false (λ i. not (h i)))
-    at false h = refl
+no-constant k = never-both usesSecond usesConstant refl k
 
 -- the next carry is 1 if two or more of the inputs are, but for the borrow, which is kind 9's
 pub carries-add : (k : ℕ) → hasCarries (kindOf k) ≡ true → k ≢ 9 → gates (kindOf k) .carries ≡ made twoOrMore carryInto

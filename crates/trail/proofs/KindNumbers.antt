@@ -1,7 +1,7 @@
 -- From a kind's number to what its row says: tests that are computed over the numbers, so that other proofs need no kind by name.
 use mathlib.Core.Path.{_≡_, refl, sym, ap, subst, _∙_}
 use mathlib.Core.Logic.{_≢_, _⊎_, inl, inr}
-use mathlib.Core.Bool.{Bool, true, false, cond, _&&_, and-eq-true-iff, false≢true}
+use mathlib.Core.Bool.{Bool, true, false, cond, not, _&&_, and-eq-true-iff, false≢true}
 use mathlib.Core.List.{List, [], _∷_}
 use Prim.Native.Nat.{ℕ, zero, suc, _+_, _-_, _≤_, _<_}
 use native.Mathlib.Decide.{ℕ-discrete, decLe}
@@ -145,6 +145,15 @@ each-passes f (a ∷ ks) e =
 pub every-kind : (f : Kind → Bool) → allPass f (upFrom lastKind 1) ≡ true → (k : ℕ) → 1 ≤ k → k ≤ lastKind → f (kindOf k) ≡ true
 every-kind f test k least most =
     in-range (λ q. f q ≡ true) {a = 1} {b = lastKind + 1} {k = k} least (omega arith) (each-passes f (upFrom lastKind 1) test)
+
+-- two tests that no kind passes together
+pub never-both : (f g : Kind → Bool) → allPass (λ q. not (f q && g q)) (upFrom lastKind 1) ≡ true → (k : ℕ) → 1 ≤ k → k ≤ lastKind
+    → f (kindOf k) ≡ true → g (kindOf k) ≡ false
+never-both f g test k least most e = at (g (kindOf k)) (rw e at (every-kind (λ q. not (f q && g q)) test k least most))
+  where
+    at : (b : Bool) → not (true && b) ≡ true → b ≡ false
+    at true h = absurd (false≢true h)
+    at false h = refl
 
 -- ---- known kinds
 

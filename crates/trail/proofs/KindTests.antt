@@ -32,13 +32,13 @@ unfolding kindOf
 distinct-unwanted k h = no-number wantsDistinct k refl h
 
 -- the rotations and the shifts are a range of numbers each
-pub amount-used : (k : ℕ) → 3 ≤ k → k < 5 → usesAmount (kindOf k) ≡ true
+pub amount-of-rotation : (k : ℕ) → 3 ≤ k → k < 5 → usesAmount (kindOf k) ≡ true
 unfolding kindOf
-amount-used k least most = in-range (λ q. usesAmount q ≡ true) least most (refl, (refl, tt))
+amount-of-rotation k least most = in-range (λ q. usesAmount q ≡ true) least most (refl, (refl, tt))
 
-pub amount-used-above : (k : ℕ) → 7 ≤ k → k < 9 → usesAmount (kindOf k) ≡ true
+pub amount-of-shift : (k : ℕ) → 7 ≤ k → k < 9 → usesAmount (kindOf k) ≡ true
 unfolding kindOf
-amount-used-above k least most = in-range (λ q. usesAmount q ≡ true) least most (refl, (refl, tt))
+amount-of-shift k least most = in-range (λ q. usesAmount q ≡ true) least most (refl, (refl, tt))
 
 pub amount-unused : (k : ℕ) → ((3 ≤ k) × (k < 5) → ⊥) → ((7 ≤ k) × (k < 9) → ⊥) → usesAmount (kindOf k) ≡ false
 unfolding kindOf
@@ -57,7 +57,7 @@ pub ruleset kind-tests = (
   constant-unused,
   distinct-wanted,
   distinct-unwanted,
-  amount-used,
-  amount-used-above,
+  amount-of-rotation,
+  amount-of-shift,
   amount-unused,
 )

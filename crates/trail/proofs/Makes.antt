@@ -5,7 +5,7 @@ use lib.Bits.{xor-lt}
 use lib.Pow.{pow-pos}
 use Rattle.words.proofs.Rotations.{rotateLeft-lt, rotateRight-lt}
 use Rattle.words.proofs.Shifts.{shiftLeft-lt, shiftRight-lt}
-use Rattle.words.proofs.Subtraction.{differenceModulo-lt}
+use Rattle.words.proofs.Subtraction.{minusModulo-lt}
 use Rattle.words.proofs.Sums.{sumModulo-lt}
 use Rattle.trail.specs.declared.Line.{Line}
 use Rattle.trail.specs.Kinds.{Kind, kindOf, usesAmount, usesConstant, makesAs, makes}
@@ -30,5 +30,5 @@ makes-word {n} {j} {l} w x y hx hy = at (kindOf (l .kind)) refl
     at addConstant e = sumModulo-lt n x (l .constant)
     at shiftsLeft e = shiftLeft-lt n (l .amount) x
     at shiftsRight e = shiftRight-lt n (l .amount) x hx
-    at subtractWords e = differenceModulo-lt n _ _
+    at subtractWords e = minusModulo-lt n _ _
     at unknown e = pow-pos n

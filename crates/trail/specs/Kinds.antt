@@ -3,7 +3,7 @@ use Prim.Native.Nat.{ℕ}
 use mathlib.Core.Bool.{Bool, true, false, cond}
 use lib.Dec.{eqb}
 use lib.Bits.{bitXor}
-use Rattle.words.specs.Words.{sumModulo, differenceModulo, rotateLeft, rotateRight, shiftLeft, shiftRight}
+use Rattle.words.specs.Words.{sumModulo, minusModulo, rotateLeft, rotateRight, shiftLeft, shiftRight}
 use Rattle.trail.specs.declared.Line.{Line}
 
 pub data Kind : Type 0 where
@@ -43,7 +43,7 @@ row addWords = record { second = true; amount = false; constant = false; distinc
 row addConstant = record { second = false; amount = false; constant = true; distinct = false; word = λ n l x y. sumModulo n x (l .constant) }
 row shiftsLeft = record { second = false; amount = true; constant = false; distinct = false; word = λ n l x y. shiftLeft n (l .amount) x }
 row shiftsRight = record { second = false; amount = true; constant = false; distinct = false; word = λ n l x y. shiftRight (l .amount) x }
-row subtractWords = record { second = true; amount = false; constant = false; distinct = true; word = λ n l x y. differenceModulo n x y }
+row subtractWords = record { second = true; amount = false; constant = false; distinct = true; word = λ n l x y. minusModulo n x y }
 row unknown = record { second = false; amount = false; constant = false; distinct = false; word = λ n l x y. 0 }
 
 abbrev pub usesSecond : Kind → Bool

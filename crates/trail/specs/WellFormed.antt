@@ -1,4 +1,4 @@
--- What questions 4 to 15 of document 01 say of a trail.
+-- What questions 4 to 15 of documents 01 and 02 say of a trail.
 use Prim.Native.Nat.{ℕ, _+_, _^_, _<_, _≤_}
 use mathlib.Core.Path.{_≡_}
 use mathlib.Core.Logic.{_≢_}

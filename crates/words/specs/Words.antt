@@ -29,16 +29,16 @@ isWord n x = ltb x (2 ^ n)
 unfoldable pub sumModulo : ℕ → ℕ → ℕ → ℕ
 sumModulo n x y = (x + y) % 2 ^ n
 
--- the difference modulo 2 ^ n (document 02, W-201)
-unfoldable pub differenceModulo : ℕ → ℕ → ℕ → ℕ
-differenceModulo n x y = (x + (2 ^ n - y % 2 ^ n)) % 2 ^ n
+-- x minus y modulo 2 ^ n (document 02, W-201)
+unfoldable pub minusModulo : ℕ → ℕ → ℕ → ℕ
+minusModulo n x y = (x + (2 ^ n - y % 2 ^ n)) % 2 ^ n
 
 -- a word of n bits shifted left by r places: the bits that leave at the top are dropped, and zeros come in at the bottom
 -- (document 02, W-201)
 unfoldable pub shiftLeft : ℕ → ℕ → ℕ → ℕ
 shiftLeft n r x = x * 2 ^ r % 2 ^ n
 
--- a word shifted right by r places: the bits that leave at the bottom are dropped, and zeros come in at the top
+-- a word shifted right by r places: the bits that leave at the bottom are dropped, and zeros come in at the top (document 02, W-201)
 unfoldable pub shiftRight : ℕ → ℕ → ℕ
 shiftRight r x = x / 2 ^ r
 
@@ -55,7 +55,7 @@ rotateRight n r x = x / 2 ^ r + x * 2 ^ (n - r) % 2 ^ n
 unfoldable pub carryInto : ℕ → ℕ → ℕ → Bool
 carryInto x y i = leb (2 ^ i) (x % 2 ^ i + y % 2 ^ i)
 
--- the borrow into bit i of a difference: 1 exactly when the first word's low i bits are less than the second's
+-- the borrow into bit i of x minus y: 1 exactly when the first word's low i bits are less than the second's
 -- (document 02, W-201)
 unfoldable pub borrowInto : ℕ → ℕ → ℕ → Bool
 borrowInto x y i = ltb (x % 2 ^ i) (y % 2 ^ i)

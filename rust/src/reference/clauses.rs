@@ -192,7 +192,10 @@ impl Run<'_> {
             }
             sheet::SHIFT_LEFT => self.write_shift_left(first, amount, result, list),
             sheet::SHIFT_RIGHT => self.write_shift_right(first, amount, result, list),
-            _ => self.write_addition(first, self.word(record.second), result, BORROWS, list),
+            sheet::SUBTRACT => {
+                self.write_addition(first, self.word(record.second), result, BORROWS, list)
+            }
+            _ => unreachable!("question 9 admits no other kind"),
         }
     }
 

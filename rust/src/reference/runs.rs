@@ -60,7 +60,8 @@ impl Sheet<'_> {
             sheet::ADD_CONSTANT => first.wrapping_add(record.constant),
             sheet::SHIFT_LEFT => shift_left(first, amount, self.width()),
             sheet::SHIFT_RIGHT => shift_right(first, amount),
-            _ => first.wrapping_sub(second),
+            sheet::SUBTRACT => first.wrapping_sub(second),
+            _ => unreachable!("question 9 admits no other kind"),
         };
         result & self.mask()
     }

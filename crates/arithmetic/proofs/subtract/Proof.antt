@@ -3,7 +3,7 @@ use borrow.Author.Needs.{needs}
 use native.Mathlib.Omega.{arith}
 use mathlib.Core.Path.{_∙_}
 use lib.Bits.{and-mask}
-use Rattle.words.proofs.Subtraction.{difference-wrapped}
+use Rattle.words.proofs.Subtraction.{minus-wrapped}
 use Rattle.arithmetic.proofs.subtract.Statement.{statement}
 use Rattle.arithmetic.proofs.subtract.Tie as tie
 
@@ -17,7 +17,7 @@ returns : tie.Need-returns
 returns c =
     let a = c .before .before .args in
     let r = c .before .wrapping-sub-u64 .result in
-    rw (c .mask .ensures) (and-mask r (a .n) ∙ difference-wrapped 64 (a .n) (a .x) (a .y) r (omega arith) (c .before .wrapping-sub-u64 .ensures))
+    rw (c .mask .ensures) (and-mask r (a .n) ∙ minus-wrapped 64 (a .n) (a .x) (a .y) r (omega arith) (c .before .wrapping-sub-u64 .ensures))
 
 pub subtract-spec : {M : Type 1} → statement M
 subtract-spec = tie.close (tie.spec wrapping-sub-u64-requires mask-requires returns)

@@ -6,7 +6,7 @@ use mathlib.Core.Logic.{⊎-elim}
 use borrow.Author.Needs.{needs}
 use Rattle.sheet.specs.Questions.{amountRight}
 use Rattle.trail.specs.Kinds.{kindOf, usesAmount}
-use Rattle.trail.proofs.KindTests.{amount-used, amount-used-above, amount-unused}
+use Rattle.trail.proofs.KindTests.{amount-of-rotation, amount-of-shift, amount-unused}
 use Rattle.line_questions.proofs.amount_right.Tie as tie
 use Rattle.line_questions.proofs.amount_right.Statement.{statement}
 
@@ -23,7 +23,7 @@ returns : tie.Need-returns
 unfolding amountRight
 returns c =
     let kind = c .before .before .before .before .args .line .kind in
-    let used : usesAmount (kindOf kind) ≡ true = ⊎-elim (λ w. amount-used kind (omega arith) (omega arith)) (λ w. amount-used-above kind (omega arith) (omega arith)) (c .before .before .if2 .came) in
+    let used : usesAmount (kindOf kind) ≡ true = ⊎-elim (λ w. amount-of-rotation kind (omega arith) (omega arith)) (λ w. amount-of-shift kind (omega arith) (omega arith)) (c .before .before .if2 .came) in
     rw (c .within .ensures, used)
 
 returns-2 : tie.Need-returns-2

@@ -8,7 +8,7 @@ use borrow.Author.Needs.{needs}
 use lib.Dec.{eqb}
 use Rattle.trail.specs.Kinds.{Kind, kindOf, usesAmount, usesSecond, usesConstant}
 use Rattle.trail.proofs.KindNumbers.{at-keys, numbersWith, with-number, every-kind}
-use Rattle.trail.proofs.KindTests.{second-unused, amount-used, amount-used-above, amount-unused}
+use Rattle.trail.proofs.KindTests.{second-unused, amount-of-rotation, amount-of-shift, amount-unused}
 use Rattle.sheet.specs.Questions.{unusedZero}
 use Rattle.sheet.proofs.Testing.{testing}
 use Rattle.sheet.specs.declared.Record.{Record}
@@ -55,7 +55,7 @@ unfolding rest kindOf
 returns-3 c =
     let l = c .before .before .before .before .before .before .args .line in
     let zero = asks l (c .before .before .before .before .if1 .left) in
-    let used : usesAmount (kindOf (l .kind)) ≡ true = ⊎-elim (λ w. amount-used (l .kind) (omega arith) (omega arith)) (λ w. amount-used-above (l .kind) (omega arith) (omega arith)) (c .before .if3 .came) in
+    let used : usesAmount (kindOf (l .kind)) ≡ true = ⊎-elim (λ w. amount-of-rotation (l .kind) (omega arith) (omega arith)) (λ w. amount-of-shift (l .kind) (omega arith) (omega arith)) (c .before .if3 .came) in
     let is = at-keys (λ q. rest l q ≡ (eqb (l .second) 0 && eqb (l .constant) 0)) (numbersWith usesAmount) (l .kind) (with-number usesAmount (l .kind) refl used) (refl, (refl, (refl, (refl, tt)))) in
     c .both-zero2 .ensures ∙ sym (zero ∙ is)
 

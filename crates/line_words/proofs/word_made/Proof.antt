@@ -1,12 +1,12 @@
 -- `word_made` goes by the kind's number: what its arms ask and return is what the row of that number's kind says.
 use borrow.Author.Needs.{needs}
-use mathlib.Core.Bool.{true, cond}
+use mathlib.Core.Bool.{Bool, true, cond}
 use mathlib.Core.Logic.{inl, inr}
-use mathlib.Core.Path.{_≡_, refl}
+use mathlib.Core.Path.{_≡_, refl, ap, _∙_}
 use Prim.Native.Nat.{ℕ, _≤_, _<_}
 use native.Mathlib.Omega.{arith}
 use lib.Bits.{bitXor}
-use Rattle.words.specs.Words.{sumModulo}
+use Rattle.words.specs.Words.{sumModulo, minusModulo}
 use Rattle.trail.specs.declared.Line.{Line}
 use Rattle.trail.specs.Kinds.{kindOf, usesSecond, usesAmount, makesAs, makes}
 use Rattle.trail.proofs.KindNumbers.{at-key, in-range, at-no-kind, lastKind}
@@ -50,14 +50,17 @@ shift-right-requires : tie.Need-shift-right-requires
 unfolding kindOf
 shift-right-requires c κs = omega (arith, amount-at (c .before .pre .3) (c .match .keys4) refl .1)
 
-subtract-requires : tie.Need-subtract-requires
-subtract-requires c κs = search needs
-
 other-input-requires : tie.Need-other-input-requires
 other-input-requires c κs = search needs
 
+subtract-requires : tie.Need-subtract-requires
+subtract-requires c κs = search needs
+
 other-input-requires-2 : tie.Need-other-input-requires-2
 other-input-requires-2 c κs = search needs
+
+other-input-requires-3 : tie.Need-other-input-requires-3
+other-input-requires-3 c κs = search needs
 
 add-requires : tie.Need-add-requires
 add-requires c κs = search needs
@@ -80,13 +83,18 @@ returns-4 c = made-at _ _ _ _ (c .before .match .keys4) (c .shift-right .ensures
 
 returns-5 : tie.Need-returns-5
 unfolding kindOf
-returns-5 c = made-at _ _ _ _ (c .before .match .keys5) (c .subtract .ensures)
+returns-5 c =
+    let a = c .before .before .before .args in
+    let key = c .before .before .match .keys5 in
+    let second = at-key (λ q. usesSecond q ≡ true) key refl in
+    let other = c .before .other-input .ensures ∙ ap (λ (b : Bool). cond b (a .y) (a .line .constant)) second in
+    made-at _ _ _ _ key (c .subtract .ensures ∙ ap (minusModulo (a .n) (a .x)) other)
 
 returns-6 : tie.Need-returns-6
 unfolding makes kindOf
 returns-6 c =
     let a = c .before .before .before .before .args in
-    rw (c .other-input .ensures)
+    rw (c .other-input2 .ensures)
     (in-range
     (λ q. bitXor (a .x) (cond (usesSecond q) (a .y) (a .line .constant)) ≡ makesAs q (a .n) (a .line) (a .x) (a .y))
     (c .before .before .if1 .left)
@@ -99,7 +107,7 @@ returns-7 c =
     let a = c .before .before .before .before .before .before .args in
     let rest = c .before .before .before .before .before .match .rest in
     let least : 5 ≤ a .line .kind = over (over (c .before .before .before .if2 .left) (rest .0 .0 .0 .0 .1)) (rest .0 .0 .0 .1) in
-    rw (c .add .ensures, c .before .other-input2 .ensures)
+    rw (c .add .ensures, c .before .other-input3 .ensures)
     (in-range
     (λ q. sumModulo (a .n) (a .x) (cond (usesSecond q) (a .y) (a .line .constant)) ≡ makesAs q (a .n) (a .line) (a .x) (a .y))
     least
@@ -128,9 +136,10 @@ word-made-spec =
     rotate-right-requires
     shift-left-requires
     shift-right-requires
-    subtract-requires
     other-input-requires
+    subtract-requires
     other-input-requires-2
+    other-input-requires-3
     add-requires
     returns
     returns-2
