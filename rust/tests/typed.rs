@@ -80,7 +80,10 @@ fn clauses_have_their_own_length() {
     for line in 0..4 {
         let numbers = tablegull::line_clauses(&sheet, line).expect("a line of the sheet");
         let mut lent = [7; tablegull::MAX_LINE_CLAUSES];
-        assert_eq!(slices::line_clauses(&sheet, line, &mut lent), Ok(numbers.len()));
+        assert_eq!(
+            slices::line_clauses(&sheet, line, &mut lent),
+            Ok(numbers.len())
+        );
         assert_eq!(lent[..numbers.len()], numbers[..]);
         clauses += numbers.iter().filter(|&&number| number == 0).count() as u64;
     }
