@@ -19,28 +19,30 @@ use Rattle.clause_lists.specs.Lists.{bitClauses, runClauses, clausesIn, 
 abbrev neg : ℕ → ℤ
 neg k = negℤ (pos k)
 
--- ---- n = 3: word 0 shifted left by 2, certain from difference 1 to 4
+-- ---- n = 3: word 0 shifted left by 1, certain from difference 5 to 2
 
 unfoldable pub shiftedLeft : Trail
 shiftedLeft = record {
   width = 3;
-  inputs = 1 ∷ [];
-  lines = record { kind = 7; amount = 2; first = 0; second = 0; constant = 0; difference = 4 } ∷ [];
+  inputs = 5 ∷ [];
+  lines = record { kind = 7; amount = 1; first = 0; second = 0; constant = 0; difference = 2 } ∷ [];
 }
 
-pub shiftedLeft-counts : (variables shiftedLeft ≡ 6) × (clauseCount shiftedLeft ≡ 8)
+pub shiftedLeft-counts : (variables shiftedLeft ≡ 6) × (clauseCount shiftedLeft ≡ 10)
 unfolding shiftedLeft variables clauseCount total lineClauses clausesIn runClauses bitClauses parity gate rowClauses wrong valuesIn clauseOf literals concat bitLiteral variablesBefore bitVariable count lineAt differenceAt kindOf bit xor
 shiftedLeft-counts = (refl, refl)
 
 pub shiftedLeft-list : joined shiftedLeft ≡
     neg 4 ∷ pos 0 ∷
-    neg 5 ∷ pos 0 ∷
-    pos 1 ∷ neg 6 ∷ pos 0 ∷
-    neg 1 ∷ pos 6 ∷ pos 0 ∷
+    pos 1 ∷ neg 5 ∷ pos 0 ∷
+    neg 1 ∷ pos 5 ∷ pos 0 ∷
+    pos 2 ∷ neg 6 ∷ pos 0 ∷
+    neg 2 ∷ pos 6 ∷ pos 0 ∷
     neg 4 ∷ pos 0 ∷
-    neg 5 ∷ pos 0 ∷
-    neg 1 ∷ pos 6 ∷ pos 0 ∷
-    pos 1 ∷ neg 6 ∷ pos 0 ∷
+    neg 1 ∷ pos 5 ∷ pos 0 ∷
+    pos 1 ∷ neg 5 ∷ pos 0 ∷
+    pos 2 ∷ neg 6 ∷ pos 0 ∷
+    neg 2 ∷ pos 6 ∷ pos 0 ∷
     []
 unfolding shiftedLeft joined lineList numbers lineClauses clausesIn runClauses bitClauses parity gate rowClauses wrong valuesIn clauseOf literals concat bitLiteral bitVariable lineAt differenceAt kindOf bit xor
 shiftedLeft-list = refl

@@ -8,7 +8,7 @@ use Rattle.trail.specs.Kinds.Kind.{xorWords, xorConstant, rotatesLeft, rotatesR
 use Rattle.differential.specs.declared.Differential.{Differential}
 use Rattle.differential.specs.Report.{Reporting, reporting}
 use Rattle.differential.specs.Report.Reporting.{linear, twoWords, constant, none}
-use Rattle.differential.specs.Demand2.{Proper}
+use Rattle.differential.specs.Demand2.{Proper, possibleNumber}
 use Rattle.differential.proofs.Linear.{Linear, xor-words, xor-constant, rotate-left, rotate-right, shift-left, shift-right}
 use Rattle.differential.proofs.Turning.{FitsAs, sum-fits, minus-fits}
 
@@ -39,6 +39,26 @@ module _ (d : Differential) where
   unfolding makes
   says how =
       subst (λ (p : Reporting). Says p d (makes (d .width) (d .line))) how (row-says (kindOf (d .line .kind)) refl)
+
+-- ---- the number of a report that is not impossible
+
+abbrev pub numberBy : Reporting → ℕ
+numberBy (linear given) = 1
+numberBy (twoWords sum) = 2
+numberBy constant = 3
+numberBy none = 0
+
+pub row-number : (q : Kind) → possibleNumber q ≡ numberBy (reporting q)
+row-number xorWords = refl
+row-number xorConstant = refl
+row-number rotatesLeft = refl
+row-number rotatesRight = refl
+row-number addWords = refl
+row-number addConstant = refl
+row-number shiftsLeft = refl
+row-number shiftsRight = refl
+row-number subtractWords = refl
+row-number unknown = refl
 
 -- ---- the differences that a report reads
 

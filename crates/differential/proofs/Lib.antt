@@ -5,6 +5,7 @@ pub mod KindRows
 pub mod RightReports
 pub mod Demand2
 pub mod Starred
+pub mod ReportExamples
 pub mod Formula
 pub mod BitSums
 pub mod CarryPairs

@@ -1,10 +1,10 @@
 -- A line's report, and the difference that it is given, by the way in which its kind is reported.
 use mathlib.Core.Path.{_≡_, refl, ap, _∙_}
-use mathlib.Core.Bool.{true, false, false≢true, true≢false}
+use mathlib.Core.Bool.{Bool, true, false, false≢true, true≢false}
 use Rattle.trail.specs.Kinds.{kindOf}
 use Rattle.differential.specs.declared.Differential.{Differential}
 use Rattle.differential.specs.Constant.{constantFitting}
-use Rattle.differential.specs.Report.{certainIf, constantReport, Reporting, isLinear, reporting, reportBy, reportOf, givenBy, givenDifference}
+use Rattle.differential.specs.Report.{certainIf, constantReport, Reporting, reporting, reportBy, reportOf, givenBy, givenDifference}
 use Rattle.differential.specs.Report.Reporting.{linear, twoWords, constant, none}
 use Rattle.differential.proofs.Formula.{fitting-constant}
 
@@ -21,6 +21,12 @@ module _ (d : Differential) where
   constant-report how =
       report-by how
       ∙ ap (constantReport (d .width) (d .line .constant) (d .first) (d .line .difference)) (fitting-constant d how)
+
+abbrev pub isLinear : Reporting → Bool
+isLinear (linear given) = true
+isLinear (twoWords sum) = false
+isLinear constant = false
+isLinear none = false
 
 -- a linear line is certain by the difference that it is given
 pub linear-report : (d : Differential) → isLinear (reporting (kindOf (d .line .kind))) ≡ true

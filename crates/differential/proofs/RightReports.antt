@@ -1,7 +1,7 @@
 -- Each of the four reports is right where what it says is true and the line's kind is reported so.
 use mathlib.Core.Path.{_≡_, refl, sym, ap, _∙_}
 use mathlib.Core.Logic.{_↔_, _≢_, inl, inr}
-use mathlib.Core.Bool.{true, false, true≢false, false≢true}
+use mathlib.Core.Bool.{true, false, true≢false}
 use Prim.Native.Nat.{ℕ, _-_, _*_, _^_, _<_}
 use native.Mathlib.Omega.{arith}
 use lib.Pow.{pow-pos}
@@ -10,9 +10,10 @@ use Rattle.words.proofs.Pairs.{pairs-none}
 use Rattle.trail.specs.Kinds.{kindOf}
 use Rattle.differential.specs.declared.Differential.{Differential}
 use Rattle.differential.specs.Fits.{fits, fitting, fittingPairs}
-use Rattle.differential.specs.Report.{impossible, certain, halves, counted, Addition, isLinear, isTwoWords, reporting}
+use Rattle.differential.specs.Report.{impossible, certain, halves, counted, Addition, Reporting, reporting}
 use Rattle.differential.specs.Report.Reporting.{linear, twoWords, constant}
-use Rattle.differential.specs.Demand2.{CountedRight, RightReport}
+use Rattle.differential.specs.Demand2.{CountedRight, possibleNumber, RightReport}
+use Rattle.differential.proofs.KindRows.{numberBy, row-number}
 
 module _ (d : Differential) where
   abbrev NoneFits : Type 0
@@ -25,17 +26,18 @@ module _ (d : Differential) where
     halves-right = λ e. absurd (omega arith);
     counted-right = λ e. absurd (omega arith);
     counted-fitting = λ e. absurd (omega arith);
-    number-most = omega arith;
-    linear-number = λ _. inl refl;
-    words-number = λ _. inl refl;
-    constant-number = λ _. inl refl;
+    kind-number = inl refl;
   }
 
   -- a report with another number, where something fits
   possible : {number : ℕ} → number ≢ 0 → (NoneFits → ⊥) → (number ≡ 0) ↔ NoneFits
   possible other some = (λ e. absurd (other e), λ none. absurd (some none))
 
-  -- ---- a kind is reported in one way: what is asked of another contradicts how
+  -- a kind's own number is that of the way in which it is reported
+  own-number : {p : Reporting} → reporting (kindOf (d .line .kind)) ≡ p → numberBy p ≡ possibleNumber (kindOf (d .line .kind))
+  own-number how = sym (row-number (kindOf (d .line .kind)) ∙ ap numberBy how)
+
+  -- ---- the others, by how the kind is reported
 
   pub certain-right : {given : Differential → ℕ} → reporting (kindOf (d .line .kind)) ≡ linear given
       → ((x y : ℕ) → x < 2 ^ d .width → y < 2 ^ d .width → fits d x y ≡ true)
@@ -46,10 +48,7 @@ module _ (d : Differential) where
     halves-right = λ e. absurd (omega arith);
     counted-right = λ e. absurd (omega arith);
     counted-fitting = λ e. absurd (omega arith);
-    number-most = omega arith;
-    linear-number = λ _. inr refl;
-    words-number = λ other. absurd (false≢true (sym (ap isTwoWords how) ∙ other));
-    constant-number = λ other. inl (cc);
+    kind-number = inr (own-number how);
   }
     where
       word : 0 < 2 ^ d .width
@@ -66,10 +65,7 @@ module _ (d : Differential) where
     halves-right = λ _. record { bits = bits; weight-is = refl; bits-less = less; pairs-fit = pairs };
     counted-right = λ e. absurd (omega arith);
     counted-fitting = λ e. absurd (omega arith);
-    number-most = omega arith;
-    linear-number = λ other. absurd (false≢true (sym (ap isLinear how) ∙ other));
-    words-number = λ _. inr refl;
-    constant-number = λ other. inl (cc);
+    kind-number = inr (own-number how);
   }
 
   pub counted-right : reporting (kindOf (d .line .kind)) ≡ constant
@@ -84,8 +80,5 @@ module _ (d : Differential) where
     halves-right = λ e. absurd (omega arith);
     counted-right = λ _. right;
     counted-fitting = λ _. refl;
-    number-most = omega arith;
-    linear-number = λ other. absurd (false≢true (sym (ap isLinear how) ∙ other));
-    words-number = λ other. absurd (false≢true (sym (ap isTwoWords how) ∙ other));
-    constant-number = λ _. inr refl;
+    kind-number = inr (own-number how);
   }

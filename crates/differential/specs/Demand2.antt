@@ -4,12 +4,12 @@ use mathlib.Core.Path.{_≡_}
 use mathlib.Core.Logic.{_↔_, _⊎_}
 use mathlib.Core.Bool.{true, false}
 use Rattle.trail.specs.WellFormed.{WellFormedLine}
-use Rattle.trail.specs.Kinds.{kindOf}
+use Rattle.trail.specs.Kinds.{Kind, kindOf}
+use Rattle.trail.specs.Kinds.Kind.{xorWords, xorConstant, rotatesLeft, rotatesRight, addWords, addConstant, shiftsLeft, shiftsRight, subtractWords, unknown}
 use Rattle.differential.specs.declared.Differential.{Differential}
 use Rattle.differential.specs.Fits.{fits, fitting, fittingPairs}
 use Rattle.differential.specs.Unit.{unit, slack}
-use Rattle.differential.specs.Report.{Report, isLinear, isTwoWords, reporting, reportOf}
-use Rattle.differential.specs.Report.Reporting.{constant}
+use Rattle.differential.specs.Report.{Report, reportOf}
 
 -- the differences are words of the line's width, and the line is well-formed
 pub record Proper (d : Differential) : Type 0 where
@@ -33,19 +33,29 @@ pub record HalvesRight (n pairs weight : ℕ) : Type 0 where
   pub bits-less : bits < n
   pub pairs-fit : pairs ≡ 2 ^ (2 * n - bits)
 
+-- The number of a kind's reports that are not impossible. Kinds 1 to 4 and the shifts are certain; kinds 5 and 9 are halves, never
+-- certain; kind 6 is counted, never certain. An unknown kind has none.
+abbrev pub possibleNumber : Kind → ℕ
+possibleNumber xorWords = 1
+possibleNumber xorConstant = 1
+possibleNumber rotatesLeft = 1
+possibleNumber rotatesRight = 1
+possibleNumber addWords = 2
+possibleNumber addConstant = 3
+possibleNumber shiftsLeft = 1
+possibleNumber shiftsRight = 1
+possibleNumber subtractWords = 2
+possibleNumber unknown = 0
+
 -- Impossible exactly when no operand values with the stated differences give the stated result difference; certain only when all
--- do; halves and counted as above. Linear kinds are certain or impossible; adding two words, or subtracting one from
--- another, is never certain or counted, adding a constant never certain or halves.
+-- do; halves and counted as above; and a kind's reports are impossible or have the kind's own number.
 pub record RightReport (d : Differential) (r : Report) : Type 0 where
   pub impossible-exactly : (r .number ≡ 0) ↔ ((x y : ℕ) → x < 2 ^ d .width → y < 2 ^ d .width → fits d x y ≡ false)
   pub certain-fits : r .number ≡ 1 → (x y : ℕ) → x < 2 ^ d .width → y < 2 ^ d .width → fits d x y ≡ true
   pub halves-right : r .number ≡ 2 → HalvesRight (d .width) (fittingPairs d) (r .weight)
   pub counted-right : r .number ≡ 3 → CountedRight (d .width) (fitting d) (r .weight) (r .chains)
   pub counted-fitting : r .number ≡ 3 → r .fitting ≡ fitting d
-  pub number-most : r .number ≤ 3
-  pub linear-number : isLinear (reporting (kindOf (d .line .kind))) ≡ true → (r .number ≡ 0) ⊎ (r .number ≡ 1)
-  pub words-number : isTwoWords (reporting (kindOf (d .line .kind))) ≡ true → (r .number ≡ 0) ⊎ (r .number ≡ 2)
-  pub constant-number : reporting (kindOf (d .line .kind)) ≡ constant → (r .number ≡ 0) ⊎ (r .number ≡ 3)
+  pub kind-number : (r .number ≡ 0) ⊎ (r .number ≡ possibleNumber (kindOf (d .line .kind)))
 
 -- Demand 2 for every line by itself
 abbrev pub EveryReportIsRight : Type 0

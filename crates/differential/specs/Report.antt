@@ -1,6 +1,6 @@
 -- A line's report (document 01, "Line reports"; document 02, W-201): one of four, with document 01's number and values.
 use Prim.Native.Nat.{ℕ, _*_}
-use mathlib.Core.Bool.{Bool, true, false, cond}
+use mathlib.Core.Bool.{cond}
 use lib.Bits.{bitXor}
 use lib.Dec.{eqb}
 use Rattle.words.specs.Words.{rotateLeft, rotateRight, shiftLeft, shiftRight}
@@ -75,18 +75,6 @@ pub data Reporting : Type 0 where
   linear : (Differential → ℕ) → Reporting
   twoWords : (Differential → Addition) → Reporting
   constant none : Reporting
-
-abbrev pub isLinear : Reporting → Bool
-isLinear (linear given) = true
-isLinear (twoWords sum) = false
-isLinear constant = false
-isLinear none = false
-
-abbrev pub isTwoWords : Reporting → Bool
-isTwoWords (linear given) = false
-isTwoWords (twoWords sum) = true
-isTwoWords constant = false
-isTwoWords none = false
 
 -- Kinds 1 to 4 give the XOR, copy or rotation of the operands' differences, kinds 7 and 8 the shift.
 abbrev pub reporting : Kind → Reporting

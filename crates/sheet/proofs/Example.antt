@@ -97,12 +97,40 @@ lineCases =
     ∷ lineCase 9 0 1 1 0 (refused 11 1)
     ∷ lineCase 9 1 0 1 0 (refused 15 1)
     ∷ lineCase 9 0 0 1 1 (refused 15 1)
+    ∷ lineCase 7 1 0 0 1 (refused 15 1)
+    ∷ lineCase 8 1 0 1 0 (refused 15 1)
+    ∷ lineCase 9 0 1 0 0 (accepted 0)
     ∷ []
 
-pub line-answers : map (λ (c : LineCase). verdict (recordQuestions Read (headerOf twoLines) 1 (c .line)) 0) lineCases
-    ≡ map (λ (c : LineCase). c .answer) lineCases
+-- of several faults the first question's
+abbrev pub faultyCases : List LineCase
+faultyCases =
+    lineCase 9 0 2 2 0 (refused 10 1)
+    ∷ lineCase 7 0 2 0 0 (refused 10 1)
+    ∷ lineCase 9 1 1 1 0 (refused 11 1)
+    ∷ lineCase 7 0 0 1 0 (refused 12 1)
+    ∷ []
+
+-- the header of twoLines, with words of n bits
+abbrev pub headerAt : ℕ → Header
+headerAt n = headerOf (set twoLines 4 n)
+
+-- with words of eight bits shifts are by 1 to 7
+abbrev pub wideCases : List LineCase
+wideCases =
+    lineCase 7 7 0 0 0 (accepted 0)
+    ∷ lineCase 7 8 0 0 0 (refused 12 1)
+    ∷ lineCase 8 7 0 0 0 (accepted 0)
+    ∷ lineCase 8 8 0 0 0 (refused 12 1)
+    ∷ []
+
+-- the answers are those of the cases
+abbrev pub Answered : ℕ → List LineCase → Type 0
+Answered n cs = map (λ (c : LineCase). verdict (recordQuestions Read (headerAt n) 1 (c .line)) 0) cs ≡ map (λ (c : LineCase). c .answer) cs
+
+pub line-answers : Answered 2 lineCases × Answered 2 faultyCases × Answered 8 wideCases
 unfolding twoLines verdict within operandsEarlier operandsDiffer amountRight constantRight unusedZero recordQuestions numberAt kindOf formOf
-line-answers = refl
+line-answers = (refl, refl, refl)
 
 -- ---- checks
 

@@ -8,9 +8,9 @@ use native.Mathlib.Decide.{decLe}
 use native.Mathlib.Omega.{arith}
 use Rattle.trail.specs.Kinds.{kindOf, usesConstant}
 use Rattle.trail.proofs.KindNumbers.{at-key, in-range, at-no-kind}
-use Rattle.differential.specs.Report.{impossible, ownAddition, turningBack, isLinear, reporting, reportBy, reportOf}
+use Rattle.differential.specs.Report.{impossible, ownAddition, turningBack, reporting, reportBy, reportOf}
 use Rattle.differential.specs.Report.Reporting.{twoWords, constant}
-use Rattle.differential.proofs.ReportKinds.{report-by, constant-report, linear-report}
+use Rattle.differential.proofs.ReportKinds.{isLinear, report-by, constant-report, linear-report}
 use Rattle.line_reports.proofs.report.Statement.{statement}
 use Rattle.line_reports.proofs.report.Tie as tie
 

@@ -9,9 +9,9 @@ use Rattle.words.specs.Words.{rotateLeft, rotateRight, shiftLeft, shiftRight}
 use Rattle.trail.specs.Kinds.{kindOf, usesAmount}
 use Rattle.trail.proofs.KindNumbers.{at-key, no-number}
 use Rattle.differential.specs.declared.Differential.{Differential}
-use Rattle.differential.specs.Report.{isLinear, reporting, givenBy, givenDifference}
+use Rattle.differential.specs.Report.{reporting, givenBy, givenDifference}
 use Rattle.differential.specs.Demand2.{Proper}
-use Rattle.differential.proofs.ReportKinds.{none-given}
+use Rattle.differential.proofs.ReportKinds.{isLinear, none-given}
 use Rattle.line_reports.proofs.linear_kinds.given_difference.Statement.{statement}
 use Rattle.line_reports.proofs.linear_kinds.given_difference.Tie as tie
 
