@@ -35,7 +35,7 @@ pub fn add(n: u32, x: u64, y: u64) -> u64
     std::num::wrapping_add_u64(x, y) & mask(n)
 }
 
-// The difference modulo 2^n.
+// x minus y modulo 2^n.
 pub fn subtract(n: u32, x: u64, y: u64) -> u64
     requires { ⌜ (1 ≤ n) × (n ≤ 64) ⌝ }
     ensures { λ r. ⌜ r ≡ minusModulo n x y ⌝ }

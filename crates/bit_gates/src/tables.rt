@@ -1,6 +1,6 @@
 // The tables of a line's gates: bit t of a table is the output at the inputs' row t, the first input as highest bit. A constant's
-// bit, the carry into bit 0 and a filled zero are no literals: they choose the table. Where only the number of ones counts, the lower
-// rows of a table serve for fewer than three literals.
+// bit and the carry into bit 0 are no literals: they choose the table. Where only the number of ones counts, the lower rows of a
+// table serve for fewer than three literals, and a filled zero, which is none, counts for nothing.
 ghost use mathlib.Core.Path.{_≡_};
 ghost use mathlib.Core.Bool.{true};
 ghost use Prim.Native.Nat.{_<_};

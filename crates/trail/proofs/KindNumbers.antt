@@ -72,6 +72,10 @@ in-range-of (suc (suc c)) a k least most = at (ℕ-discrete k a) (λ l m. in-ran
 pub in-range : (P : Kind → Type 0) {a b k : ℕ} → a ≤ k → k < b → AtEach (λ a. P (kindOf a)) (upFrom (b - a) a) → P (kindOf k)
 in-range P {a} {b} {k} least most each = at-keys P (upFrom (b - a) a) k (in-range-of (b - a) a k least (omega arith)) each
 
+-- past a number that has an arm of its own
+pub over : {a k : ℕ} → a ≤ k → k ≢ a → a < k
+over least other = omega arith
+
 -- at no kind's number
 pub at-no-kind : (P : Kind → Type 0) {k : ℕ} → (k < 1) ⊎ (lastKind < k) → P unknown → P (kindOf k)
 at-no-kind P {k} (inl h) p = subst P (sym (ap kindOf (none k h) ∙ kind-zero)) p

@@ -7,7 +7,7 @@ use Prim.Native.Nat.{ℕ, _<_, _≤_}
 use native.Mathlib.Decide.{decLe}
 use native.Mathlib.Omega.{arith}
 use Rattle.trail.specs.Kinds.{kindOf, usesConstant}
-use Rattle.trail.proofs.KindNumbers.{at-key, in-range, at-no-kind}
+use Rattle.trail.proofs.KindNumbers.{at-key, in-range, at-no-kind, over}
 use Rattle.differential.specs.Report.{impossible, ownAddition, turningBack, reporting, reportBy, reportOf}
 use Rattle.differential.specs.Report.Reporting.{twoWords, constant}
 use Rattle.differential.proofs.ReportKinds.{isLinear, report-by, constant-report, linear-report}
@@ -74,10 +74,7 @@ returns-6 : tie.Need-returns-6
 unfolding reportOf
 returns-6 c =
     let d = c .before .before .before .before .args .d in
-    at-no-kind (λ q. impossible ≡ reportBy (reporting q) d) (inr (past _ (c .if2 .left) (c .before .before .match .rest .1))) refl
-  where
-    past : (k : ℕ) → 9 ≤ k → k ≢ 9 → 9 < k
-    past k least not9 = omega arith
+    at-no-kind (λ q. impossible ≡ reportBy (reporting q) d) (inr (over (c .if2 .left) (c .before .before .match .rest .1))) refl
 
 pub report-spec : {M : Type 1} → statement M
 report-spec =

@@ -9,7 +9,7 @@ use lib.Bits.{bitXor}
 use Rattle.words.specs.Words.{sumModulo, minusModulo}
 use Rattle.trail.specs.declared.Line.{Line}
 use Rattle.trail.specs.Kinds.{kindOf, usesSecond, usesAmount, makesAs, makes}
-use Rattle.trail.proofs.KindNumbers.{at-key, in-range, at-no-kind, lastKind}
+use Rattle.trail.proofs.KindNumbers.{at-key, in-range, over, at-no-kind, lastKind}
 use Rattle.line_words.proofs.word_made.Statement.{statement}
 use Rattle.line_words.proofs.word_made.Tie as tie
 
@@ -24,11 +24,6 @@ amount-at asked e used = asked (at-key (λ q. usesAmount q ≡ true) e used)
 made-at : (n : ℕ) (l : Line) (x y : ℕ) {w a : ℕ} → l .kind ≡ a → w ≡ makesAs (kindOf a) n l x y → w ≡ makes n l x y
 unfolding makes
 made-at n l x y {w} e made = at-key (λ q. w ≡ makesAs q n l x y) e made
-
--- ---- the numbers that no arm has
-
-over : {a k : ℕ} → a ≤ k → (k ≡ a → ⊥) → a < k
-over least none = omega arith
 
 rotate-left-requires : tie.Need-rotate-left-requires
 unfolding kindOf
