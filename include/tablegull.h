@@ -81,11 +81,11 @@ extern "C" {
 /*
  * The version of this header, and of the Rust package beside it.  It is raised
  * when this header or what a call answers changes, as with another layout of
- * struct tablegull_answer or with kinds of lines that were refused before.  The
- * archive does not tell its version: take header and archive from the same
- * sources.
+ * struct tablegull_answer, with kinds of lines that were refused before, or
+ * with another rule for the totals.  The archive does not tell its version:
+ * take header and archive from the same sources.
  */
-#define TABLEGULL_VERSION "0.3.0"
+#define TABLEGULL_VERSION "0.4.0"
 
 /* Lengths that are always enough. */
 #define TABLEGULL_MAX_SHEET 4608       /* bytes of a sheet                     */
@@ -143,7 +143,9 @@ struct tablegull_answer tablegull_report(const uint8_t *sheet, size_t len,
 /*
  * Writes the sheet's totals as three words: the number of impossible lines,
  * the sum of the other lines' weights in sixteenths of a bit, and the number
- * of their chains.
+ * of their chains.  A line that repeats an earlier one (same kind, amount,
+ * operands in order, constant and stated difference) adds no weight and no
+ * chains; a copy of an impossible line is impossible too, and counts.
  * Asks 1 to 16, then 18 (out_len of 3 or more).
  * count: 3.
  */

@@ -15,7 +15,7 @@ import sheet_cases
 
 CRATE = Path(__file__).resolve().parent.parent / "crates" / "cases"
 # The program's room for its cases.
-MOST_CASES = 2**18
+MOST_CASES = 9 * 2**15
 SUBJECTS = {"sheets": sheet_cases, "reports": report_cases, "clauses": clause_cases, "texts": program_cases}
 
 if __name__ == "__main__":

@@ -6,9 +6,10 @@ reading of the documents.
 A case is a line `TEXT FILE`: the text that is printed, and the file of the sheet. The texts are `report`, `clauses`, and
 `header`, which is the first line of the clauses.
 """
+from math import log2
 from pathlib import Path
 
-from oracle.trail import (BLOCK, CARRY_KINDS, KINDS, MAX_LINES, Line, Sheet, clauses_text, read, report, report_text,
+from oracle.trail import (BLOCK, CARRY_KINDS, KINDS, MAX_LINES, Line, Sheet, clauses_text, read, repeats, report, report_text,
                           seal_bytes, totals, variables)
 from report_cases import difference_made, some_line, spread, trail
 from sheet_cases import put, put_field
@@ -58,7 +59,7 @@ REPORT_INPUTS = [0xFFFFFFFF, 0, 0x55555555, 0x80000000, 0x10000000, 0x00800010, 
 
 def report_line(k):
     """Line k of the report sheet, with values of its operands that the stated difference is to fit. Of twelve lines, one is
-    the sum that costs most, three have most chains, one has a large N, and seven are of any kind."""
+    the sum that costs most, always the same, three have most chains, one has a large N, and seven are of any kind."""
     turn, dozen = k % 12, k // 12
     if turn == 0:
         return Line(5, first=ALL_BITS, second=NO_BIT), 0, 0
@@ -81,6 +82,8 @@ def report_sheet():
     assert kinds == {(0, kind) for kind in KINDS} | certain | {(2, 5), (2, 9), (3, 6)}
     most = [max(column) for column in zip(*report(sheet))]
     assert most == [3, 496, 16, 2**32] and all(least <= total for least, total in zip((100, 10000, 1000), totals(sheet)))
+    # The sum that costs most stands there 21 times, and is charged once.
+    assert sum(weight for _, weight, _, _ in report(sheet)) - totals(sheet)[1] == 20 * 496
     return sheet.pack()
 
 
@@ -127,19 +130,49 @@ def add(name, data, texts, start=""):
 
 
 def largest():
-    """The most lines, all of the kind that costs most and has most clauses."""
-    line = Line(5, first=ALL_BITS, second=NO_BIT, difference=REPORT_INPUTS[ALL_BITS])
-    return Sheet(WIDTH, REPORT_INPUTS, [line] * MAX_LINES).pack()
+    """The most lines, all of the kind that costs most and has most clauses; no two are equal, as each adds to the last word."""
+    firsts = [ALL_BITS] + [INPUTS + k for k in range(MAX_LINES - 1)]
+    lines = [Line(5, first=first, second=NO_BIT, difference=REPORT_INPUTS[ALL_BITS]) for first in firsts]
+    return Sheet(WIDTH, REPORT_INPUTS, lines).pack()
+
+
+def far_copies():
+    """The largest with two copies at its end: of the line before, which is charged last, and of line 0, which is charged first.
+    A program that keeps too few lines, or those of one block alone, charges one of the copies."""
+    sheet = read(largest())
+    sheet.lines[-2:] = sheet.lines[-3], sheet.lines[0]
+    return sheet.pack()
+
+
+def equal_lines():
+    """The most lines, all of them document 01's (3,4,12), which costs 8 sixteenths and has one chain."""
+    return Sheet(4, [4], [Line(6, constant=3, difference=12)] * MAX_LINES).pack()
+
+
+def add_whole(name, data, total, header):
+    """Cases of a sheet that is accepted, with its totals and both counts of its clauses."""
+    add(name, data, ("report", "header"))
+    assert answers[-2].endswith(f"\ntotal {total}\n") and answers[-1].endswith(f":\np cnf {header}\n"), name
 
 
 def accepted_sheets():
     add("example", EXAMPLE, ("report", "clauses"))
     add("all_kinds", trail(8, 2, 12), ("report", "clauses"))
-    add("largest", largest(), ("report", "header"))
-    assert answers[-2].endswith("\ntotal 0 123008 0\n") and answers[-1].endswith(":\np cnf 23568 246016\n")
-    for name, total in (("lea7", "total 0 622 6"), ("lea7_printed", "total 1 574 6"), ("xtea27", "total 0 786 12")):
+    add_whole("largest", largest(), "0 123008 0", "23568 246016")
+    add_whole("far_copies", far_copies(), f"0 {246 * 496} 0", "23568 246016")
+    # Copies have carries and clauses as any line has: here 6 and 48.
+    add_whole("equal_lines", equal_lines(), "0 8 1", f"{4 * 249 + 6 * 248} {48 * 248}")
+    for name, total in (("lea7", "total 0 622 6"), ("lea7_printed", "total 1 574 6"), ("xtea27", "total 0 765 10")):
         add(name, (ROOT / "examples" / f"{name}.sheet").read_bytes(), ("report",))
         assert answers[-1].endswith(f"\n{total}\n")
+
+
+def table_12():
+    """Source document 000's Table 12 charges XTEA's encryption 40 bits, its key additions 6.893, and a repeated one once."""
+    sheet = read((ROOT / "examples" / "xtea27.sheet").read_bytes())
+    charged = [r for k, r in enumerate(report(sheet)) if not repeats(sheet, k)]
+    assert sum(weight for number, weight, _, _ in charged if number == 2) == 16 * 40
+    assert abs(sum(sheet.n - log2(fitting) for number, _, _, fitting in charged if number == 3) - 6.893) < 0.0005
 
 
 def refused_sheets():
@@ -161,5 +194,6 @@ def texts():
     assert report_text(EXAMPLE) == EXAMPLE_REPORT and clauses_text(EXAMPLE) == EXAMPLE_CLAUSES
     own_sheets()
     accepted_sheets()
+    table_12()
     refused_sheets()
     return cases, answers

@@ -262,6 +262,87 @@ def whole_sheets():
         add_sheet(f"with {count} lines of all kinds at width {n}", trail(n, m, count))
 
 
+# Copies (document 02, W-202). The totals are worked out by hand, most of them from the numbers that document 01 prints of its
+# starred cases at width 4 and from SUBTRACTIONS. A name ends with what some wrong program does otherwise.
+
+def of_words(kind, difference, first=0, second=1):
+    return Line(kind, first=first, second=second, difference=difference)
+
+
+def plus(constant, difference, word=0):
+    return Line(6, first=word, constant=constant, difference=difference)
+
+
+def add_totals(name, inputs, lines, by_hand, n=4):
+    """A sheet on inputs of these differences. Its totals, by hand: impossible lines, weight, chains."""
+    sheet = Sheet(n, inputs, lines)
+    assert totals(sheet) == by_hand, (name, totals(sheet))
+    add_sheet(f"with {name}", sheet.pack())
+
+
+def copies():
+    """A copy adds nothing, wherever it stands."""
+    add_totals("a sum three times, not charged at every other copy", [1, 0], [of_words(5, 1)] * 3, (0, 16, 0))
+    add_totals("a subtraction twice, charged once as a sum is", [0, 1], [of_words(9, 15)] * 2, (0, 48, 0))
+    add_totals("a constant added twice, its weight and its chain charged once", [4], [plus(3, 12)] * 2, (0, 8, 1))
+    add_totals("a constant added twice at weight 0, its chain charged once", [1], [plus(0, 1)] * 2, (0, 0, 1))
+    add_totals("a line between a sum and its copy, not compared with the line before alone", [1, 0],
+               [of_words(5, 1), of_words(9, 1), of_words(5, 1)], (0, 16 + 16, 0))
+    add_totals("two sums by turns, not compared with line 0 alone", [4], [plus(3, 12), plus(3, 4)] * 2, (0, 8 + 32, 2))
+
+
+def impossible_copies():
+    """A copy of an impossible line counts. A possible line with another difference is no copy of it, nor it of that."""
+    kinds = [of_words(1, 1), Line(2, constant=7, difference=1), of_words(5, 1), plus(7, 1), of_words(9, 1)]
+    kinds += [Line(kind, 1, difference=1) for kind in AMOUNT_KINDS]
+    add_totals("an impossible line of each kind twice, each counted twice", [0, 0], kinds * 2, (18, 0, 0))
+    add_totals("an impossible difference and then a possible one, which is charged", [1], [plus(1, 1), plus(1, 3)],
+               (1, 16, 1))
+    add_totals("a possible and an impossible difference by turns, each with its own report", [1],
+               [plus(1, 3), plus(1, 1)] * 2, (2, 16, 1))
+
+
+def apart_by_one_field():
+    """Lines with one field apart, or with the operands exchanged, are no copies. Words that set lines apart have the same
+    difference. Rotations and shifts cost nothing, so their impossible lines have to tell."""
+    add_totals("a sum and a subtraction, both charged since the kinds differ", [1, 0], [of_words(5, 1), of_words(9, 1)],
+               (0, 16 + 16, 0))
+    add_totals("an XOR and a sum, which is charged since the kinds differ", [1, 0], [of_words(1, 1), of_words(5, 1)],
+               (0, 16, 0))
+    add_totals("an XOR and a subtraction, which is charged since the kinds differ", [1, 0], [of_words(1, 1), of_words(9, 1)],
+               (0, 16, 0))
+    add_totals("word 0 added and the constant 0, both charged since the kinds differ", [0, 1],
+               [of_words(5, 1, 1, 0), plus(0, 1, 1)], (0, 16, 1))
+    add_totals("a constant XORed and added, which is charged since the kinds differ", [4],
+               [Line(2, constant=3, difference=4), plus(3, 4)], (0, 32, 1))
+    add_totals("rotations and shifts by one amount, each with its own kind's report", [1],
+               [Line(kind, 1, difference=2) for kind in AMOUNT_KINDS], (2, 0, 0))
+    add_totals("rotations and shifts by two amounts, each with its own amount's report", [1],
+               [Line(kind, amount, difference=2) for kind in (3, 7) for amount in (1, 2)], (2, 0, 0))
+    for kind, name in ((5, "sums"), (9, "subtractions")):
+        add_totals(f"{name} apart by the order of the words, both charged", [1, 1],
+                   [of_words(kind, 0), of_words(kind, 0, 1, 0)], (0, 16 + 16, 0))
+        add_totals(f"{name} apart by the first word, both charged though its difference is the same", [1, 0, 1],
+                   [of_words(kind, 1, first) for first in (0, 2)], (0, 16 + 16, 0))
+        add_totals(f"{name} apart by the second word, both charged though its difference is the same", [1, 0, 0],
+                   [of_words(kind, 1, 0, second) for second in (1, 2)], (0, 16 + 16, 0))
+        add_totals(f"{name} apart by the stated difference, both charged", [1, 0], [of_words(kind, 1), of_words(kind, 3)],
+                   (0, 16 + 32, 0))
+    add_totals("a constant added to two words, both charged though their difference is the same", [1, 1],
+               [plus(1, 3, word) for word in (0, 1)], (0, 16 + 16, 2))
+    add_totals("sums of a word and each of two copies, both charged", [4, 0],
+               [plus(3, 12), plus(3, 12), of_words(5, 12, 2, 1), of_words(5, 12, 3, 1)], (0, 8 + 16 + 16, 1))
+    # At every width an odd constant takes difference 1 to 3 at a cost of one bit, with one chain.
+    add_totals("two constants added, both charged", [1], [plus(1, 3), plus(3, 3)], (0, 16 + 16, 2))
+    add_totals("constants apart in the lowest bit, both charged", [4], [plus(2, 4), plus(3, 4)], (0, 16 + 32, 2))
+    add_totals("constant and stated difference apart by the same bit, both charged", [1], [plus(1, 3), plus(5, 7)],
+               (0, 16 + 32, 2))
+    add_totals("constants apart in the highest of 32 bits, both charged", [1], [plus(1, 3), plus(2**31 + 1, 3)],
+               (0, 16 + 16, 2), 32)
+    add_totals("stated differences apart in the highest of 32 bits, both charged", [2**30, 0],
+               [of_words(5, 2**30), of_words(5, 2**31 + 2**30)], (0, 16 + 16, 0), 32)
+
+
 def refused_sheets():
     good = trail(8, 2, 12)
     add_unsealed("with a wrong check in its last block", put(good, 2 * BLOCK - 1, good[-1] ^ 1), "2 1")
@@ -273,6 +354,6 @@ def refused_sheets():
 def texts():
     """The lines of all cases, and of their answers."""
     for group in (all_differentials, starred, misreadings, subtractions, shifts, example_1, table_15, long_quiet, whole_sheets,
-                  refused_sheets):
+                  copies, impossible_copies, apart_by_one_field, refused_sheets):
         group()
     return cases, answers

@@ -58,13 +58,16 @@ impl LineReport {
 }
 
 /// A sheet's totals.
+///
+/// A line repeats an earlier one if kind, amount, operands in order, constant
+/// and stated difference are equal. It adds no weight and no chains.
 #[derive(Clone, Copy, Debug, PartialEq, Eq)]
 pub struct Totals {
-    /// How many lines are impossible.
+    /// How many lines are impossible, repeats among them.
     pub impossible: u64,
-    /// The sum of the other lines' weights.
+    /// The sum of the other lines' weights, repeats left out.
     pub weight: Sixteenths,
-    /// The number of their chains.
+    /// The number of their chains, repeats left out.
     pub chains: u64,
 }
 

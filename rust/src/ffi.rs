@@ -44,7 +44,8 @@ extern "C" {
     /// Writes all lines' reports; count: the bytes written.
     pub fn tablegull_report(sheet: *const u8, len: usize, out: *mut u8, out_len: usize) -> Answer;
 
-    /// Writes impossible lines, weight and chains; count: 3.
+    /// Writes impossible lines, and weight and chains with repeats left out;
+    /// count: 3.
     pub fn tablegull_totals(sheet: *const u8, len: usize, out: *mut u64, out_len: usize) -> Answer;
 
     /// Runs the program twice and compares; count: 3.

@@ -11,7 +11,7 @@
 //! | `seal` | writes the blocks' checks | its blocks |
 //! | `line_report` | one line's report | a [`LineReport`] |
 //! | `reports` | all lines' reports | a [`LineReport`] for each line |
-//! | `totals` | impossible lines, weight in sixteenths, chains | [`Totals`] |
+//! | `totals` | impossible lines, weight in sixteenths, chains; repeated lines cost once | [`Totals`] |
 //! | `two_runs` | runs a starting value along the trail | [`Runs`] |
 //! | `clause_counts` | variables and clauses of the sheet | [`ClauseCounts`] |
 //! | `line_clauses` | one line's clauses for a SAT solver | its numbers |
@@ -149,7 +149,8 @@ pub fn reports(sheet: &[u8]) -> Result<Vec<LineReport>, Refusal> {
         .collect())
 }
 
-/// The sheet's totals.
+/// The sheet's totals. A line that repeats an earlier one adds no weight and no
+/// chains.
 #[cfg(has_archive)]
 pub fn totals(sheet: &[u8]) -> Result<Totals, Refusal> {
     let mut words = [0; 3];

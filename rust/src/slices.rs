@@ -65,7 +65,8 @@ pub fn report(sheet: &[u8], out: &mut [u8]) -> Result<usize, Refusal> {
 }
 
 /// Writes the sheet's totals: impossible lines, the others' weight in
-/// sixteenths of a bit, chains. Answers 3.
+/// sixteenths of a bit, chains. A line that repeats an earlier one adds no
+/// weight and no chains. Answers 3.
 pub fn totals(sheet: &[u8], out: &mut [u64]) -> Result<usize, Refusal> {
     // SAFETY: each pointer and length are one slice's, and `out` is borrowed
     // for writing.

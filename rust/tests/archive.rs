@@ -270,6 +270,7 @@ mod compared {
     #[test]
     fn accepted_sheets_at_all_widths() {
         let mut random = Random::new(100);
+        let (mut sheets, mut with_costly_repeats) = (0, 0);
         for width in (2..=32).cycle().take(31 * 300) {
             let (inputs, lines) = (1 + random.below(8), random_lines(&mut random));
             let (mut program, start) = random_program(&mut random, width, inputs, lines);
@@ -277,7 +278,15 @@ mod compared {
                 disturb(&mut random, &mut program);
             }
             compare_accepted(&mut random, &program, &start);
+            let reports = REFERENCE.reports(&program.sheet());
+            sheets += 1;
+            with_costly_repeats += usize::from(program.has_costly_repeats(&reports));
         }
+        // On many sheets repeats make the totals other than plain sums.
+        assert!(
+            3 * with_costly_repeats > sheets,
+            "{with_costly_repeats} of {sheets}"
+        );
     }
 
     #[test]

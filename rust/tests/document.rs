@@ -1,5 +1,5 @@
-//! The examples, cases and bounds that document 01 prints, and cases of the
-//! kinds that document 02 adds.
+//! The examples, cases and bounds that document 01 prints, and cases of what
+//! document 02 adds: kinds of lines, and totals with repeated lines.
 
 mod common;
 
@@ -287,6 +287,191 @@ fn totals_add_up_in_sixteenths() {
         assert_eq!((calls.totals)(&bytes, &mut out), Ok(3));
         assert_eq!(out, [2, 16 + 32 + 8, 2], "{}", calls.name);
     }
+}
+
+/// The totals of these lines at n = 4.
+fn totals(inputs: &[u32], lines: &[Line]) -> [u64; 3] {
+    agreed(&sheet_of(inputs, lines), Calls::sheet_totals)
+}
+
+fn sheet_of(inputs: &[u32], lines: &[Line]) -> SheetBuilder {
+    let mut sheet = SheetBuilder::new(4, inputs);
+    for line in lines {
+        sheet.line(*line);
+    }
+    sheet
+}
+
+#[test]
+fn copies_cost_once() {
+    let sum = Line::add(0, 1, 1); // halves, 1 bit
+    let with_constant = Line::add_constant(2, 3, 12); // counted, 8 sixteenths, 1 chain
+    let minus = Line::subtract(1, 0, 15); // halves, 3 bits
+    let inputs = [1, 0, 4];
+    for (line, charged) in [
+        (sum, [0, 16, 0]),
+        (with_constant, [0, 8, 1]),
+        (minus, [0, 48, 0]),
+    ] {
+        for copies in [1, 2, 3, 31, 32, 33, 248] {
+            assert_eq!(totals(&inputs, &vec![line; copies]), charged, "{copies}");
+        }
+    }
+    // One after the other, and in turn.
+    assert_eq!(totals(&inputs, &[sum, sum, minus, minus]), [0, 64, 0]);
+    assert_eq!(
+        totals(&inputs, &[sum, with_constant, sum, with_constant]),
+        [0, 24, 1]
+    );
+    assert_eq!(
+        totals(
+            &inputs,
+            &[sum, with_constant, minus, minus, with_constant, sum]
+        ),
+        [0, 72, 1]
+    );
+}
+
+#[test]
+fn chains_of_no_weight_count_once() {
+    let line = Line::add_constant(0, 0, 1); // counted, weight 0, 1 chain
+    let of_another_word = Line::add_constant(1, 0, 1);
+    assert_eq!(totals(&[1, 1], &[line; 3]), [0, 0, 1]);
+    assert_eq!(totals(&[1, 1], &[line, of_another_word, line]), [0, 0, 2]);
+}
+
+#[test]
+fn copies_keep_their_reports_and_clauses() {
+    let line = Line::add(0, 1, 1);
+    let (single, copies) = (sheet_of(&[1, 0], &[line]), sheet_of(&[1, 0], &[line; 3]));
+    assert_eq!(reports(&copies), [halves(1); 3]);
+    let lists =
+        |sheet: &SheetBuilder, line| agreed(sheet, |calls, bytes| calls.clauses(bytes, line));
+    // A copy has variables of its own, so its clauses are compared by length.
+    let literals = |list: &[Vec<i32>]| list.iter().map(Vec::len).collect::<Vec<_>>();
+    for line in 0..3 {
+        assert_eq!(
+            literals(&lists(&copies, line)),
+            literals(&lists(&single, 0))
+        );
+    }
+}
+
+#[test]
+fn lines_apart_in_one_field_are_no_repeats() {
+    let inputs = [1, 0, 1, 0];
+    let sum = Line::add(0, 1, 1); // halves, 1 bit
+    for (other, both) in [
+        (Line::add(2, 1, 1), [0, 32, 0]),      // first operand
+        (Line::add(0, 3, 1), [0, 32, 0]),      // second operand
+        (Line::add(1, 0, 1), [0, 32, 0]),      // operands exchanged
+        (Line::add(0, 1, 3), [0, 16 + 32, 0]), // stated difference
+        (Line::subtract(0, 1, 1), [0, 32, 0]), // kind 9
+        (Line::xor(0, 1, 1), [0, 16, 0]),      // kind 1, certain
+    ] {
+        assert_eq!(totals(&inputs, &[sum, other]), both, "{other:?}");
+        assert_eq!(totals(&inputs, &[other, sum]), both, "{other:?}");
+        assert_eq!(totals(&inputs, &[sum, other, sum, other]), both);
+    }
+
+    let with_constant = Line::add_constant(0, 1, 3); // counted, 16 sixteenths, 1 chain
+    for (other, both) in [
+        (Line::add_constant(2, 1, 3), [0, 32, 2]), // first operand
+        (Line::add_constant(0, 3, 3), [0, 32, 2]), // constant
+        (Line::add_constant(0, 1, 7), [0, 48, 2]), // stated difference
+        (Line::xor_constant(0, 1, 1), [0, 16, 1]), // kind 2, certain
+        (Line::xor_constant(0, 1, 3), [1, 16, 1]), // kind 2, impossible
+    ] {
+        assert_eq!(totals(&inputs, &[with_constant, other]), both, "{other:?}");
+        assert_eq!(totals(&inputs, &[other, with_constant]), both, "{other:?}");
+    }
+
+    // Lines with amounts cost nothing, repeated or not.
+    let rotations = [Line::rotate_left(0, 1, 2), Line::rotate_left(0, 2, 2)];
+    assert_eq!(totals(&inputs, &rotations), [1, 0, 0]);
+}
+
+#[test]
+fn lines_apart_in_high_bits_are_no_repeats() {
+    let mut sheet = SheetBuilder::new(32, &[1 << 16, 0, 1]);
+    sheet.line(Line::add(0, 1, 1 << 16)); // halves, 1 bit
+    sheet.line(Line::add(0, 1, 3 << 16)); // halves, 2 bits
+    sheet.line(Line::add_constant(2, 0, 1)); // counted, weight 0, 1 chain
+    sheet.line(Line::add_constant(2, 1 << 31, 1)); // the same
+    assert_eq!(agreed(&sheet, Calls::sheet_totals), [0, 48, 2]);
+}
+
+#[test]
+fn kinds_5_and_6_with_the_same_numbers_are_no_repeats() {
+    // The second operand 0 of the one is a word, the constant 0 of the other a
+    // number.
+    let lines = [Line::add(1, 0, 1), Line::add_constant(1, 0, 1)];
+    assert_eq!(totals(&[0, 1], &lines), [0, 16, 1]);
+}
+
+#[test]
+fn equal_words_with_other_numbers_are_no_repeats() {
+    // Words 2 and 3 are copies. What is made of them is the same again, but its
+    // operands are not.
+    let lines = [
+        Line::add(0, 1, 1),
+        Line::add(0, 1, 1),
+        Line::add(2, 1, 1),
+        Line::add(3, 1, 1),
+    ];
+    assert_eq!(totals(&[1, 0], &lines), [0, 48, 0]);
+}
+
+#[test]
+fn copies_of_impossible_lines_count() {
+    let sum = Line::add(0, 1, 0);
+    let with_constant = Line::add_constant(0, 0, 3);
+    let moved = Line::rotate_left(0, 1, 1);
+    assert_eq!(totals(&[1, 0], &[sum; 2]), [2, 0, 0]);
+    assert_eq!(totals(&[1, 0], &[with_constant; 3]), [3, 0, 0]);
+    assert_eq!(totals(&[1, 0], &[moved; 248]), [248, 0, 0]);
+    let possible = Line::add(0, 1, 1);
+    assert_eq!(
+        totals(&[1, 0], &[sum, possible, moved, sum, possible, moved]),
+        [4, 16, 0]
+    );
+}
+
+#[test]
+fn copies_with_other_differences_are_no_repeats() {
+    let lines = [
+        Line::add(0, 1, 1), // halves, 1 bit
+        Line::add(0, 1, 3), // halves, 2 bits
+        Line::add(0, 1, 0), // impossible
+    ];
+    let [one, two, impossible] = lines;
+    assert_eq!(totals(&[1, 0], &[one, two]), [0, 48, 0]);
+    assert_eq!(totals(&[1, 0], &[one, impossible]), [1, 16, 0]);
+    assert_eq!(totals(&[1, 0], &[impossible, one]), [1, 16, 0]);
+    assert_eq!(totals(&[1, 0], &[impossible, one, two, one]), [1, 48, 0]);
+    assert_eq!(totals(&[1, 0], &[lines, lines].concat()), [2, 48, 0]);
+}
+
+#[test]
+fn the_last_line_repeats_the_first() {
+    // Line k adds input 1 to the word of the line before it: 247 different
+    // lines, 1 bit each.
+    let mut lines = vec![Line::add(0, 1, 1)];
+    lines.extend((2..248).map(|word| Line::add(word, 1, 1)));
+    assert_eq!(lines.len(), 247);
+    for (line, weight) in [
+        (lines[0], 247 * 16),
+        (lines[31], 247 * 16),
+        (lines[246], 247 * 16),
+        (Line::add(248, 1, 1), 248 * 16),
+    ] {
+        let lines = [&lines[..], &[line]].concat();
+        assert_eq!(totals(&[1, 0], &lines), [0, weight, 0]);
+    }
+    // The same with lines between that cost nothing.
+    lines[1..].fill(Line::xor(0, 0, 0));
+    lines.push(lines[0]);
+    assert_eq!(totals(&[1, 0], &lines), [0, 16, 0]);
 }
 
 #[test]

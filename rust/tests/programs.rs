@@ -59,6 +59,16 @@ fn texts_of_the_example() {
 }
 
 #[test]
+fn report_of_copies() {
+    let mut program = example();
+    program.steps = vec![program.steps[0]; 3];
+    assert_eq!(
+        report(&program.sheet()),
+        "0 counted 0 1 4\n1 counted 0 1 4\n2 counted 0 1 4\ntotal 0 0 1\n"
+    );
+}
+
+#[test]
 fn refusals_are_printed() {
     let mut sheet = example().sheet();
     sheet[1023] ^= 1;

@@ -44,12 +44,22 @@ fn reports_have_their_parts() {
 
 #[test]
 fn totals_have_their_names() {
+    // Two copies of each line of the other tests' sheet, so that no two of the
+    // numbers are the same.
+    let mut sheet = SheetBuilder::new(4, &[1, 4]);
+    for _ in 0..2 {
+        sheet.line(Line::rotate_left(0, 1, 2));
+        sheet.line(Line::rotate_left(0, 1, 3));
+        sheet.line(Line::add(0, 1, 5));
+        sheet.line(Line::add_constant(1, 3, 12));
+    }
+    let sheet = sheet.seal().expect("a sheet that sealing accepts");
     let expected = Totals {
-        impossible: 1,
+        impossible: 2,
         weight: Sixteenths(40),
         chains: 1,
     };
-    assert_eq!(tablegull::totals(&sheet()), Ok(expected));
+    assert_eq!(tablegull::totals(&sheet), Ok(expected));
 }
 
 #[test]

@@ -12,7 +12,7 @@ use case_text::parse::find;
 use libc::STDIN_FILENO;
 
 // Room for all cases.
-const CASES_BYTES: usize = 262144;
+const CASES_BYTES: usize = 294912;
 
 fn main() {
     let mut input = [0u8; CASES_BYTES];

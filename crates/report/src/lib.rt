@@ -1,4 +1,4 @@
-// The calls on a sheet's reports (document 01, "Line reports"): `line_report`, `sheet_totals` and `write_reports`.
+// The calls on a sheet's reports (document 01, "Line reports"; document 02, W-202): `line_report`, `sheet_totals` and `write_reports`.
 ghost use mathlib.Core.Path.{_≡_};
 ghost use Rattle.sheet.specs.Asking.{verdict};
 ghost use Rattle.sheet.specs.Fields.{trailOf};

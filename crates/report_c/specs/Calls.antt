@@ -16,7 +16,7 @@ lineReportCall s k out =
     writing (questions Read s ++ (lineNumberQuestions (headerOf s) k ++ roomQuestions reportSize (length out)))
     (reportBytes (lineReport (trailOf s) k)) out
 
--- impossible lines; the sum of the others' weights in sixteenths; chains
+-- the totals' numbers: impossible lines; weight in sixteenths; chains
 abbrev pub totalsNumbers : Sums → List ℕ
 totalsNumbers t = t .impossible ∷ t .weight ∷ t .chains ∷ []
 

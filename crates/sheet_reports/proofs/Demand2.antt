@@ -4,7 +4,9 @@ use native.Mathlib.Omega.{arith}
 use mathlib.Core.Path.{_≡_, refl, sym, ap, _∙_}
 use mathlib.Core.List.{List}
 use Rattle.trail.specs.Kinds.{Kind, kindOf, usesSecond}
-use Rattle.trail.specs.Trail.{lineCount, lineAt}
+use Rattle.trail.specs.Trail.{lineCount, lineAt, differenceAt}
+use Rattle.trail.specs.declared.Line.{Line}
+use Rattle.trail.proofs.Repeats.{equal-lines}
 use Rattle.differential.specs.Report.{Reporting, reporting, reportBy, reportOf}
 use Rattle.differential.specs.Report.Reporting.{linear, twoWords, constant, none}
 use Rattle.differential.proofs.KindRows.{SameParts, Reads, row-reads}
@@ -16,7 +18,7 @@ use Rattle.sheet.specs.declared.Mode.the-variants.{Read}
 use Rattle.sheet.proofs.WellFormed.{accepted-well-formed, accepted-sized}
 use Rattle.sheet_reports.specs.Lines.{differentialOf, lineReport}
 use Rattle.sheet_reports.specs.Totals.{SmallReport}
-use Rattle.sheet_reports.specs.Demand2.{SheetReportsAreRight, ReportsAreLocal, SheetFieldsFit}
+use Rattle.sheet_reports.specs.Demand2.{SheetReportsAreRight, SameLine, ReportsAreLocal, CopiesReportAlike, SheetFieldsFit}
 use Rattle.sheet_reports.proofs.ProperLines.{proper-line}
 use Rattle.sheet_reports.proofs.SmallReports.{small-report}
 
@@ -52,6 +54,23 @@ reports-are-local t k r l same =
     at constant how _ =
         cc (fitting-constant (differentialOf t k) how, fitting-constant (differentialOf r l) (other-how ∙ how))
     at none how _ = refl
+
+pub copies-report-alike : CopiesReportAlike
+copies-report-alike t i k e = reports-are-local t i t k same
+  where
+    copy : lineAt t i ≡ lineAt t k
+    copy = equal-lines (lineAt t i) (lineAt t k) e
+
+    same : SameLine t i t k
+    same = record {
+      width = refl;
+      kind = ap (λ (l : Line). l .kind) copy;
+      amount = ap (λ (l : Line). l .amount) copy;
+      constant = ap (λ (l : Line). l .constant) copy;
+      difference = ap (λ (l : Line). l .difference) copy;
+      first = ap (λ (l : Line). differenceAt t (l .first)) copy;
+      second = λ used. ap (λ (l : Line). differenceAt t (l .second)) copy;
+    }
 
 -- the values of a line's report on an accepted sheet
 pub sheet-report-small : (s : List ℕ) → IsAccepted s → (k : ℕ) → k < lineCount (trailOf s) → SmallReport (lineReport (trailOf s) k)

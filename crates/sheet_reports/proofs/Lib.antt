@@ -3,3 +3,4 @@ pub mod SmallReports
 pub mod Matched
 pub mod Demand2
 pub mod Sums
+pub mod Charging

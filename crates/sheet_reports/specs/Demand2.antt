@@ -5,6 +5,7 @@ use mathlib.Core.Bool.{true}
 use mathlib.Core.List.{List}
 use Rattle.trail.specs.Kinds.{kindOf, usesSecond}
 use Rattle.trail.specs.Trail.{Trail, lineCount, lineAt, differenceAt}
+use Rattle.trail.specs.Repeats.{equalLines}
 use Rattle.differential.specs.Demand2.{RightReport}
 use Rattle.sheet.specs.Fields.{trailOf}
 use Rattle.sheet.specs.Questions.{IsAccepted}
@@ -27,6 +28,10 @@ pub record SameLine (t : Trail) (k : ℕ) (r : Trail) (l : ℕ) : Type 0 where
 
 abbrev pub ReportsAreLocal : Type 0
 ReportsAreLocal = (t : Trail) (k : ℕ) (r : Trail) (l : ℕ) → SameLine t k r l → lineReport t k ≡ lineReport r l
+
+-- So a copy's report is the same (document 02, W-202), and a copy of an impossible line is impossible too.
+abbrev pub CopiesReportAlike : Type 0
+CopiesReportAlike = (t : Trail) (i k : ℕ) → equalLines (lineAt t i) (lineAt t k) ≡ true → lineReport t i ≡ lineReport t k
 
 -- weight, chains and N of an accepted sheet fit their fields of the report buffer
 pub record FieldsFit (t : Trail) (k : ℕ) : Type 0 where

@@ -1,4 +1,5 @@
-// The reports of a sheet that was read: one line's differential and report, and the sum of all reports (document 01, "Line reports").
+// The reports of a sheet that was read: one line's differential and report, and the totals (document 01, "Line reports"; document 02,
+// W-202).
 ghost use mathlib.Core.Path.{_≡_};
 ghost use Prim.Native.Nat.{_<_, _^_};
 ghost use Rattle.sheet.specs.Fields.{trailOf};
@@ -6,6 +7,9 @@ ghost use Rattle.sheet.specs.Facts.{SheetRead};
 ghost use Rattle.differential.specs.Report.{reportMeans};
 ghost use Rattle.sheet_reports.specs.Lines.{differentialOf, lineReport};
 ghost use Rattle.sheet_reports.specs.Totals.{sumsOf, sheetTotals, withReport, SmallReport};
+use charged_lines::CHARGED_NUMBERS;
+use charged_lines::charge;
+use charged_lines::is_charged;
 use differential::Differential;
 use differential::LineReport;
 use differential::Sixteenths;
@@ -15,7 +19,7 @@ use sheet_fields::lines::difference_at;
 use sheet_fields::lines::line_at;
 use units::in_sixteenths;
 
-// The impossible lines, the sum of the others' weights, and the chains.
+// The impossible lines, and the sums of weights and chains, repeats left out.
 pub struct Totals {
     pub impossible: u32,
     pub weight: Sixteenths,
@@ -46,12 +50,14 @@ pub fn report_at(sheet: &[u8], header: Header, k: usize) -> LineReport
     report(differential_at(sheet, header, k))
 }
 
-// The totals of all lines.
+// The totals of all lines. One that costs something adds nothing if an equal line is charged already.
 pub fn sum_reports(sheet: &[u8], header: Header) -> Totals
     requires { ⌜ SheetRead (now sheet) header ⌝ }
     ensures { λ r. ⌜ sumsOf r ≡ sheetTotals (trailOf (now (sheet .entry))) ⌝ }
 {
     let lines = header.lines;
+    let mut charged = [0u64; CHARGED_NUMBERS];
+    let mut count = 0;
     let mut sums = Totals {
         impossible: 0,
         weight: Sixteenths(0),
@@ -59,8 +65,14 @@ pub fn sum_reports(sheet: &[u8], header: Header) -> Totals
     };
     let mut k = 0;
     while k < lines {
-        let next = with_line(sums, report_at(sheet, header, k));
-        sums = next;
+        let differential = differential_at(sheet, header, k);
+        let line = differential.line;
+        let report = report(differential);
+        if !is_charged(&charged, count, line, report) {
+            count = charge(&mut charged, count, line, report);
+            let next = with_line(sums, report);
+            sums = next;
+        }
         k += 1;
     }
     sums

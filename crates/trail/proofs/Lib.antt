@@ -4,3 +4,4 @@ pub mod Makes
 pub mod Runs
 pub mod Differences
 pub mod KindExamples
+pub mod Repeats

@@ -2,3 +2,4 @@ pub mod Kinds
 pub mod Trail
 pub mod Runs
 pub mod WellFormed
+pub mod Repeats

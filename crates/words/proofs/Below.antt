@@ -79,6 +79,19 @@ pub all-cong : (b : ℕ) (p q : ℕ → Bool) → ((k : ℕ) → k < b → p k �
 unfolding all
 all-cong = step-cong all _&&_ (λ p q. refl) (λ b p. refl)
 
+-- a test that passes wherever another says so, once all before it pass, need not be made there
+pub all-unless : (b : ℕ) (p told : ℕ → Bool) → ((k : ℕ) → k < b → told k ≡ true → all k p ≡ true → p k ≡ true)
+    → all b p ≡ all b (λ k. told k || p k)
+unfolding all
+all-unless zero p told h = refl
+all-unless (suc b) p told h =
+    at (all b p) refl (told b) refl ∙ ap (λ t. t && (told b || p b)) (all-unless b p told (λ k l. h k (omega arith)))
+  where
+    at : (before : Bool) → all b p ≡ before → (t : Bool) → told b ≡ t → (before && p b) ≡ (before && (t || p b))
+    at false e t f = refl
+    at true e false f = refl
+    at true e true f = h b (omega arith) f e
+
 -- ---- a test of some
 
 pub any-cong : (b : ℕ) (p q : ℕ → Bool) → ((k : ℕ) → k < b → p k ≡ q k) → any b p ≡ any b q
@@ -113,6 +126,9 @@ pub record Found (b : ℕ) (p : ℕ → Bool) : Type 0 where
   pub number : ℕ
   pub below : number < b
   pub passes : p number ≡ true
+
+pub found-more : {b : ℕ} {p : ℕ → Bool} → Found b p → Found (b + 1) p
+found-more w = record { number = w .number; below = omega (arith, w .below); passes = w .passes }
 
 pub any-witness : (b : ℕ) (p : ℕ → Bool) → any b p ≡ true → Found b p
 unfolding any

@@ -8,6 +8,9 @@
 //! reference's; the median of the one divided by the other in the same round;
 //! and the archive's fastest round divided by the reference's fastest, which a
 //! busy machine disturbs least.
+//!
+//! Below stand the times of totals measured by the report of the same sheet,
+//! medians over the rounds again, and how long the archive may take at most.
 
 use std::fs::{File, OpenOptions};
 use std::hint::black_box;
@@ -29,10 +32,22 @@ const TIME_OF_ONE_MEASURE: Duration = Duration::from_micros(400);
 fn main() {
     let mixed = sheet_of(&[1, 2, 3, 4, 5, 6, 7, 8, 9]);
     let additions = sheet_of(&[5]);
+    let same_operands = sheet_of_sums(1);
+    let few_operands = sheet_of_sums(2);
     let constants = sheet_of(&[6]);
+    for sheet in [&additions, &same_operands, &few_operands] {
+        assert_every_line_charged(sheet);
+    }
     let mut cases = [
         Case::new("read, all kinds mixed", read(&mixed)),
         Case::new("report, all kinds mixed", report(&mixed)),
+        Case::new("totals, all kinds mixed", totals(&mixed)),
+        Case::new("report, kind 5 only", report(&additions)),
+        Case::new("totals, kind 5 only", totals(&additions)),
+        Case::new("report, kind 5, same operands", report(&same_operands)),
+        Case::new("totals, kind 5, same operands", totals(&same_operands)),
+        Case::new("report, kind 5, few operands", report(&few_operands)),
+        Case::new("totals, kind 5, few operands", totals(&few_operands)),
         Case::new("report, kind 6 only", report(&constants)),
         Case::new("one list, kind 5", list(&additions)),
         Case::new("one list, kind 6", list(&constants)),
@@ -62,6 +77,37 @@ fn main() {
     for case in cases.iter().chain(&long_cases) {
         case.print();
     }
+    println!();
+    print_row("totals / report", "archive", "reference", "at most", "");
+    print_bound(&cases, "all kinds mixed", 1.5, ratio);
+    println!();
+    let if_5_us = "totals if the report took 5 us";
+    print_row(if_5_us, "archive", "reference", "at most", "");
+    for sheet in [
+        "kind 5 only",
+        "kind 5, same operands",
+        "kind 5, few operands",
+    ] {
+        print_bound(&cases, sheet, 8.0, |reports| time(5e3 * reports));
+    }
+}
+
+/// Prints how long the totals of a sheet take, its report being the unit, and
+/// how long the archive may take at most.
+fn print_bound(cases: &[Case], sheet: &str, most: f64, text: fn(f64) -> String) {
+    let case = |call: &str| {
+        let name = format!("{call}, {sheet}");
+        let mut cases = cases.iter();
+        cases.find(|case| case.name == name).expect("a case")
+    };
+    let (totals, report) = (case("totals"), case("report"));
+    print_row(
+        sheet,
+        &shown(median_ratio(&totals.archive, &report.archive), text),
+        &shown(median_ratio(&totals.reference, &report.reference), text),
+        &text(most),
+        "",
+    );
 }
 
 type Outcome = Result<usize, Refusal>;
@@ -71,12 +117,14 @@ type Outcome = Result<usize, Refusal>;
 struct Calls {
     read: fn(&[u8]) -> Outcome,
     report: fn(&[u8], &mut [u8]) -> Outcome,
+    totals: fn(&[u8], &mut [u64]) -> Outcome,
     line_clauses: fn(&[u8], usize, &mut [i32]) -> Outcome,
 }
 
 const REFERENCE: Calls = Calls {
     read: reference::read,
     report: reference::report,
+    totals: reference::totals,
     line_clauses: reference::line_clauses,
 };
 
@@ -84,6 +132,7 @@ const REFERENCE: Calls = Calls {
 const ARCHIVE: Option<Calls> = Some(Calls {
     read: tablegull::slices::read,
     report: tablegull::slices::report,
+    totals: tablegull::slices::totals,
     line_clauses: tablegull::slices::line_clauses,
 });
 
@@ -100,6 +149,14 @@ fn report(sheet: &[u8]) -> impl FnMut(Calls) + '_ {
     let mut out = [0; LINE_REPORT * MAX_LINES];
     move |calls| {
         (calls.report)(black_box(sheet), &mut out).expect("accepted");
+        black_box(&out);
+    }
+}
+
+fn totals(sheet: &[u8]) -> impl FnMut(Calls) + '_ {
+    let mut out = [0; 3];
+    move |calls| {
+        (calls.totals)(black_box(sheet), &mut out).expect("accepted");
         black_box(&out);
     }
 }
@@ -184,14 +241,13 @@ impl<'a> Case<'a> {
 
     fn print(&self) {
         let (archive, reference) = (&self.archive.times, &self.reference.times);
-        let ratios: Vec<f64> = archive.iter().zip(reference).map(|(a, r)| a / r).collect();
         let of_fastest = fastest(archive).zip(fastest(reference)).map(|(a, r)| a / r);
         print_row(
             self.name,
             &shown(median(archive), time),
             &shown(median(reference), time),
-            &shown(median(&ratios), |ratio| format!("{ratio:.2}")),
-            &shown(of_fastest, |ratio| format!("{ratio:.2}")),
+            &shown(median_ratio(&self.archive, &self.reference), ratio),
+            &shown(of_fastest, ratio),
         );
     }
 }
@@ -243,16 +299,27 @@ fn median(numbers: &[f64]) -> Option<f64> {
     sorted.get(sorted.len() / 2).copied()
 }
 
+/// The median of the one's time divided by the other's in the same round.
+fn median_ratio(one: &Side, other: &Side) -> Option<f64> {
+    let rounds = one.times.iter().zip(&other.times);
+    median(&rounds.map(|(a, b)| a / b).collect::<Vec<f64>>())
+}
+
 fn fastest(times: &[f64]) -> Option<f64> {
     times.iter().copied().min_by(f64::total_cmp)
 }
 
 fn print_row(name: &str, archive: &str, reference: &str, ratio: &str, fastest: &str) {
-    println!("{name:<30} {archive:>10} {reference:>10} {ratio:>8} {fastest:>8}");
+    let row = format!("{name:<30} {archive:>10} {reference:>10} {ratio:>8} {fastest:>8}");
+    println!("{}", row.trim_end());
 }
 
 fn shown(number: Option<f64>, text: impl FnOnce(f64) -> String) -> String {
     number.map_or("-".into(), text)
+}
+
+fn ratio(ratio: f64) -> String {
+    format!("{ratio:.2}")
 }
 
 fn time(nanoseconds: f64) -> String {
@@ -264,14 +331,16 @@ fn time(nanoseconds: f64) -> String {
 }
 
 /// A sheet of full size with lines of these kinds in turn. Its differences are
-/// those of two runs, so that no line is impossible.
+/// those of two runs, so that no line is impossible, and its lines are all
+/// different, so that none is a repeat.
 fn sheet_of(kinds: &[u8]) -> Vec<u8> {
     let mut random = Random(1);
     let mut first: Vec<u32> = (0..8).map(|_| random.word()).collect();
     let mut second: Vec<u32> = first.iter().map(|x| x ^ random.sparse_word()).collect();
     let differences: Vec<u32> = first.iter().zip(&second).map(|(x, y)| x ^ y).collect();
-    let mut sheet = SheetBuilder::new(32, &differences);
-    for kind in kinds.iter().cycle().take(MAX_LINES) {
+    let mut lines = Vec::with_capacity(MAX_LINES);
+    while lines.len() < MAX_LINES {
+        let kind = kinds[lines.len() % kinds.len()];
         // The two operands have different remainders modulo 2.
         let a = random.word() as usize % (first.len() / 2) * 2;
         let b = random.word() as usize % (first.len() / 2) * 2 + 1;
@@ -289,10 +358,8 @@ fn sheet_of(kinds: &[u8]) -> Vec<u8> {
             _ => words[a].wrapping_sub(words[b]),
         };
         let (x, y) = (result(&first), result(&second));
-        first.push(x);
-        second.push(y);
         let (a, b, amount, difference) = (a as u16, b as u16, amount as u8, x ^ y);
-        sheet.line(match kind {
+        let line = match kind {
             1 => Line::xor(a, b, difference),
             2 => Line::xor_constant(a, constant, difference),
             3 => Line::rotate_left(a, amount, difference),
@@ -302,9 +369,58 @@ fn sheet_of(kinds: &[u8]) -> Vec<u8> {
             7 => Line::shift_left(a, amount, difference),
             8 => Line::shift_right(a, amount, difference),
             _ => Line::subtract(a, b, difference),
-        });
+        };
+        if !lines.contains(&line) {
+            lines.push(line);
+            first.push(x);
+            second.push(y);
+        }
+    }
+    sealed(&differences, &lines)
+}
+
+/// A sheet of full size with sums of inputs, each with a stated difference of
+/// its own. The first operand is one of so many words, by chance, and the second
+/// one of as many others.
+///
+/// Of one word each, lines are not told apart by their operands; of two, where
+/// a comparison of two lines ends cannot be foreseen. Both are hard on totals
+/// that compare each line with all before it, operands first.
+fn sheet_of_sums(choices: usize) -> Vec<u8> {
+    let mut random = Random(2);
+    let differences: Vec<u32> = (0..8).map(|_| random.word()).collect();
+    let mut lines = Vec::with_capacity(MAX_LINES);
+    while lines.len() < MAX_LINES {
+        let a = random.word() as usize % choices;
+        let b = random.word() as usize % choices + choices;
+        // The difference of two runs, so that the line is possible.
+        let (x, y) = (random.word(), random.word());
+        let other = (x ^ differences[a]).wrapping_add(y ^ differences[b]);
+        let line = Line::add(a as u16, b as u16, x.wrapping_add(y) ^ other);
+        if !lines.contains(&line) {
+            lines.push(line);
+        }
+    }
+    sealed(&differences, &lines)
+}
+
+fn sealed(differences: &[u32], lines: &[Line]) -> Vec<u8> {
+    let mut sheet = SheetBuilder::new(32, differences);
+    for line in lines {
+        sheet.line(*line);
     }
     sheet.seal().expect("an accepted sheet")
+}
+
+/// Every line has a weight, and no line is a repeat: each has to be compared
+/// with those before it.
+fn assert_every_line_charged(sheet: &[u8]) {
+    let sheet = Sheet::read(sheet).expect("accepted");
+    let weights: Vec<u32> = (0..sheet.line_count())
+        .map(|line| sheet.line_report(line).numbers().0 .0)
+        .collect();
+    assert!(weights.iter().all(|&weight| weight > 0));
+    assert_eq!(weights.iter().sum::<u32>(), sheet.totals().weight.0);
 }
 
 /// Steele, Lea and Flood's SplitMix64.

@@ -52,7 +52,8 @@ pub fn report(sheet: &[u8], out: &mut [u8]) -> Result<usize, Refusal> {
 }
 
 /// Writes the sheet's totals: impossible lines, the others' weight in
-/// sixteenths of a bit, chains. Answers 3.
+/// sixteenths of a bit, chains. A line that repeats an earlier one adds no
+/// weight and no chains. Answers 3.
 pub fn totals(sheet: &[u8], out: &mut [u64]) -> Result<usize, Refusal> {
     let sheet = Sheet::read(sheet)?;
     let out = ask_room(out, 3)?;

@@ -33,7 +33,10 @@ pub struct Sheet<'a> {
 }
 
 /// A line's record, field by field.
-#[derive(Clone, Copy, Debug)]
+///
+/// A line repeats another if their records are equal: the zero field, which is
+/// no part of that rule, is zero in every accepted sheet.
+#[derive(Clone, Copy, Debug, Default, PartialEq, Eq, PartialOrd, Ord)]
 pub(super) struct Record {
     pub kind: u8,
     pub amount: u8,

@@ -96,6 +96,11 @@ pub fn counted(count: u64, weight: u32, chains: u16) -> Report {
 }
 
 impl Report {
+    /// Whether the line has a weight or chains.
+    pub fn costs(&self) -> bool {
+        self.weight > 0 || self.chains > 0
+    }
+
     pub fn parse(bytes: &[u8]) -> Report {
         assert_eq!(bytes.len(), 16);
         assert_eq!(bytes[1], 0);
@@ -114,6 +119,13 @@ impl Calls {
         let mut out = vec![0; 16 * 248];
         let length = (self.report)(sheet, &mut out).unwrap();
         out[..length].chunks(16).map(Report::parse).collect()
+    }
+
+    /// The totals of an accepted sheet: impossible lines, weight, chains.
+    pub fn sheet_totals(&self, sheet: &[u8]) -> [u64; 3] {
+        let mut out = [0; 3];
+        assert_eq!((self.totals)(sheet, &mut out), Ok(3));
+        out
     }
 
     /// One line's clauses, each without its 0.
@@ -138,8 +150,9 @@ impl Calls {
     }
 }
 
-/// One line of a program, with its fields open to the tests.
-#[derive(Clone, Copy, Debug)]
+/// One line of a program, with its fields open to the tests. What the kind does
+/// not use is 0.
+#[derive(Clone, Copy, Debug, PartialEq, Eq)]
 pub struct Step {
     pub kind: u8,
     pub amount: u8,
@@ -296,6 +309,32 @@ impl Program {
         values
     }
 
+    /// Whether a line repeats an earlier one.
+    pub fn repeats(&self, line: usize) -> bool {
+        self.steps[..line].contains(&self.steps[line])
+    }
+
+    /// The totals by the lines' reports, slow and plain.
+    pub fn totals(&self, reports: &[Report]) -> [u64; 3] {
+        let (mut impossible, mut weight, mut chains) = (0, 0, 0);
+        for (line, report) in reports.iter().enumerate() {
+            if *report == IMPOSSIBLE {
+                impossible += 1;
+            } else if !self.repeats(line) {
+                weight += u64::from(report.weight);
+                chains += u64::from(report.chains);
+            }
+        }
+        [impossible, weight, chains]
+    }
+
+    /// Whether a line with weight or chains repeats an earlier one.
+    pub fn has_costly_repeats(&self, reports: &[Report]) -> bool {
+        (0..)
+            .zip(reports)
+            .any(|(line, report)| report.costs() && self.repeats(line))
+    }
+
     /// States the differences that the two runs from a start have.
     pub fn state_differences_of(&mut self, start: &[u64]) {
         let [first, second] = self.two_runs(start);
@@ -316,6 +355,10 @@ impl Program {
 
 /// A random program of a given shape with all kinds in it, its differences
 /// those of two runs from the start that comes with it.
+///
+/// A quarter of the lines are copies of earlier ones, and another quarter are
+/// copies with one field changed. A whole copy makes the same word, and so it
+/// states the same difference.
 pub fn random_program(
     random: &mut Random,
     width: u32,
@@ -329,7 +372,12 @@ pub fn random_program(
         steps: Vec::new(),
     };
     for line in 0..lines {
-        let step = random_step(random, width, program.inputs.len() + line);
+        let words = program.inputs.len() + line;
+        let step = match random.below(8) {
+            0 | 1 if line > 0 => earlier_step(random, &program.steps),
+            2 | 3 if line > 0 => near_copy(random, width, words, &program.steps),
+            _ => random_step(random, width, words),
+        };
         program.steps.push(step);
     }
     let start = program.random_start(random);
@@ -366,14 +414,61 @@ fn random_step(random: &mut Random, width: u32, words: usize) -> Step {
     }
 }
 
-/// Puts other differences in place of some of the stated ones.
+/// One of the lines so far, rather one that adds or subtracts: those are the
+/// lines that have a weight.
+fn earlier_step(random: &mut Random, steps: &[Step]) -> Step {
+    let (step, other) = (random.pick(steps), random.pick(steps));
+    if step.has_carries() {
+        step
+    } else {
+        other
+    }
+}
+
+/// The copy of an earlier line with one field drawn anew, or with its operands
+/// exchanged. Where that gives the same line, or one that would be refused, it is
+/// a whole copy.
+fn near_copy(random: &mut Random, width: u32, words: usize, steps: &[Step]) -> Step {
+    let copy = earlier_step(random, steps);
+    let mut near = copy;
+    match (random.below(4), copy.kind) {
+        (0, 1 | 5 | 9) => near.kind = random.pick(&[1, 5, 9]),
+        (0, 2 | 6) => near.kind = random.pick(&[2, 6]),
+        (0, _) => near.kind = random.pick(&[3, 4, 7, 8]),
+        (1, _) => near.first = random.below(words) as u16,
+        (2, 1 | 5 | 9) => near.second = random.below(words) as u16,
+        (_, 1 | 5 | 9) => (near.first, near.second) = (copy.second, copy.first),
+        (_, 2 | 6) => near.constant ^= 1 << random.below(width as usize),
+        _ => near.amount = 1 + random.below(width as usize - 1) as u8,
+    }
+    if matches!(near.kind, 5 | 9) && near.first == near.second {
+        copy
+    } else {
+        near
+    }
+}
+
+/// Puts other differences in place of some of the stated ones. A copy, be it of
+/// another kind, mostly states what the line states that it copies: so there are
+/// copies of impossible lines, and lines apart in their kinds alone.
 pub fn disturb(random: &mut Random, program: &mut Program) {
     let width = program.width;
-    for step in &mut program.steps {
+    for line in 0..program.steps.len() {
+        let (earlier, later) = program.steps.split_at_mut(line);
+        let step = &mut later[0];
         match random.below(4) {
             0 => step.difference = random.difference(width),
             1 => step.difference ^= 1 << random.below(width as usize),
-            _ => {}
+            _ => {
+                let copied = earlier.iter().find(|other| {
+                    let mut copy = **other;
+                    (copy.kind, copy.difference) = (step.kind, step.difference);
+                    copy == *step
+                });
+                if let Some(copied) = copied {
+                    step.difference = copied.difference;
+                }
+            }
         }
     }
 }
