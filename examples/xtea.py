@@ -128,17 +128,32 @@ def sum_difference(i):
     return found[0]
 
 
-def add_round(sheet, i, x, y, key, total, round_key, z):
-    """Round i's lines on the words x and y and a word of the master key, with these differences of y's sum, the round key and
-    the new word. The round key, and the new word."""
+def add_mixing(sheet, y, total):
+    """A round's first four lines, on the word y: the last is y's sum, with this difference."""
     differs = sheet.differences
     high = sheet.line(SHIFT_LEFT, (differs[y] << 4) % 2**WIDTH, y, amount=4)
     low = sheet.line(SHIFT_RIGHT, differs[y] >> 5, y, amount=5)
     mixed = sheet.line(XOR, differs[high] ^ differs[low], high, low)
-    total = sheet.line(ADD, total, mixed, y)
-    round_key = sheet.line(ADD_CONSTANT, round_key, key, constant=constant(i))
-    masked = sheet.line(XOR, differs[total] ^ differs[round_key], total, round_key)
-    return round_key, sheet.line(ADD, z, x, masked)
+    return sheet.line(ADD, total, mixed, y)
+
+
+def add_round_key(sheet, i, key, round_key):
+    """Round i's key, of a word of the master key, with this difference."""
+    return sheet.line(ADD_CONSTANT, round_key, key, constant=constant(i))
+
+
+def add_new_word(sheet, x, total, round_key, z):
+    """A round's last two lines, on the words x, y's sum and the round key: the last is the new word, with this difference."""
+    masked = sheet.line(XOR, sheet.differences[total] ^ sheet.differences[round_key], total, round_key)
+    return sheet.line(ADD, z, x, masked)
+
+
+def add_round(sheet, i, x, y, key, total, round_key, z):
+    """Round i's lines on the words x and y and a word of the master key, with these differences of y's sum, the round key and
+    the new word. The round key, and the new word."""
+    total = add_mixing(sheet, y, total)
+    round_key = add_round_key(sheet, i, key, round_key)
+    return round_key, add_new_word(sheet, x, total, round_key, z)
 
 
 def trail(rounds):
@@ -153,6 +168,18 @@ def trail(rounds):
         _, z = add_round(sheet, i, x, y, 2 + keys.index(key_word(i)), sum_difference(i), round_key, made)
         x, y = y, z
     return sheet
+
+
+def apart():
+    """Rounds 0 to 5 on two sheets: of the round keys, whose inputs are the plaintext and the master key, and of all else, whose
+    inputs are the plaintext and the round keys."""
+    keys = Sheet(PLAINTEXT + MASTER_KEY)
+    rounds = Sheet(PLAINTEXT + tuple(round_key for round_key, _, _ in ROUNDS[:6]))
+    x, y = 0, 1
+    for i, (round_key, (_, made), _) in enumerate(ROUNDS[:6]):
+        add_round_key(keys, i, 2 + key_word(i), round_key)
+        x, y = y, add_new_word(rounds, x, add_mixing(rounds, y, sum_difference(i)), 2 + i, made)
+    return keys, rounds
 
 
 def both_encryptions():
@@ -189,15 +216,25 @@ def check(whole):
     assert (whole.differences[z], whole.differences[y]) == CIPHERTEXT
 
 
+def check_apart(keys, rounds):
+    """The two sheets are XTEA's rounds, where the second takes its round keys from the first."""
+    round_keys = keys.run(KNOWN_PLAINTEXT + KNOWN_KEY)[6:]
+    words = rounds.run(KNOWN_PLAINTEXT + tuple(round_keys))
+    assert (words[-7], words[-1]) == enciphered(KNOWN_PLAINTEXT, KNOWN_KEY, 6)
+
+
 if __name__ == "__main__":
-    whole = trail(range(27))
+    whole, (keys, rounds) = trail(range(27)), apart()
     check(whole)
+    check_apart(keys, rounds)
     pair, printed = both_encryptions()
     for name, sheet in (("xtea27", whole),
                         ("xtea_round3", trail([3])),
                         ("xtea_round4", trail([4])),
                         ("xtea_rounds3_4", trail([3, 4])),
-                        ("xtea_pair", pair)):
+                        ("xtea_pair", pair),
+                        ("xtea6_keys", keys),
+                        ("xtea6_rounds", rounds)):
         (FOLDER / f"{name}.sheet").write_bytes(sheet.sealed())
         print(f"{name}.sheet: {len(sheet.records)} lines")
     for name, words in zip(("xtea_pair_round3", "xtea_pair_round4"), printed):

@@ -5,8 +5,8 @@
  * A sheet is 1,024 to 4,608 bytes: a program of at most 248 lines together
  * with the XOR difference expected of every word.  The calls below read a
  * sheet, seal one, say of each line whether its differential can happen and
- * what it costs, run the program on two starting values, and write the trail
- * as clauses for a SAT solver.
+ * what it costs, run the program on two starting values, write the trail as
+ * clauses for a SAT solver, and join the trails of two sheets.
  *
  * No call keeps anything between calls, or holds on to a pointer after it
  * returns.
@@ -25,11 +25,12 @@
  *
  * Refusals
  *
- * The questions are asked in the order of their numbers, 9 to 15 together for
- * one line after the other, and the first whose answer is no is the refusal.
- * Questions 1 to 16 are asked by every call (tablegull_seal leaves out 2);
- * 17 to 19 by the calls that take what they are about.  Blocks and lines are
- * numbered from 0, block 0 being the header.
+ * Questions 1 to 16 are asked by every call (tablegull_seal leaves out 2) in
+ * the order of their numbers, 9 to 15 together for one line after the other.
+ * Questions 17 to 22 are asked after them, by the calls that take what they are
+ * about, in the order that the call says below.  The first question whose
+ * answer is no is the refusal.  Blocks and lines are numbered from 0, block 0
+ * being the header.
  *
  *   number  place  the question whose answer is no
  *   ------  -----  ------------------------------------------------------------
@@ -53,6 +54,11 @@
  *       17      0  Is the line number below L?
  *       18      0  Is the output buffer long enough for this very answer?
  *       19      0  Are there exactly m starting words, each below 2^n?
+ *       20      0  Have the two sheets the same width?
+ *       21      0  Has the list one name for each input of the second sheet,
+ *                  each a word of the first, none twice, and each with its
+ *                  input's difference?
+ *       22      0  Have the two sheets at most 248 lines together?
  *
  *
  * Outside the proof
@@ -62,6 +68,7 @@
  * for the caller to see to, and nothing is promised where they fail:
  *
  *   - Buffers lent to one call must not overlap where one of them is written.
+ *     Two that are only read may be the same.
  *   - A null pointer may be lent only with length 0.
  *   - A buffer must be at least as long as its length says, and aligned for
  *     its type as C asks.  Lengths count elements: bytes for uint8_t, 64-bit
@@ -81,11 +88,11 @@ extern "C" {
 /*
  * The version of this header, and of the Rust package beside it.  It is raised
  * when this header or what a call answers changes, as with another layout of
- * struct tablegull_answer, with kinds of lines that were refused before, or
- * with another rule for the totals.  The archive does not tell its version:
- * take header and archive from the same sources.
+ * struct tablegull_answer, with kinds of lines that were refused before, with
+ * another rule for the totals, or with a new call.  The archive does not tell
+ * its version: take header and archive from the same sources.
  */
-#define TABLEGULL_VERSION "0.4.0"
+#define TABLEGULL_VERSION "0.5.0"
 
 /* Lengths that are always enough. */
 #define TABLEGULL_MAX_SHEET 4608       /* bytes of a sheet                     */
@@ -187,6 +194,34 @@ struct tablegull_answer tablegull_clause_counts(const uint8_t *sheet,
 struct tablegull_answer tablegull_line_clauses(const uint8_t *sheet, size_t len,
                                                uint64_t line, int32_t *out,
                                                size_t out_len);
+
+/*
+ * Joins two trails, such as a key schedule's and the rounds'.  Writes a sheet
+ * with its checks: width, inputs and lines of the first, then the lines of the
+ * second with operands renumbered.  Words are numbered as operands name them:
+ * the inputs are words 0 to m - 1, and line k makes word m + k.  Input j of the
+ * second is word names[j] of the first; the word of the second's line k becomes
+ * word m + L + k, with m and L of the first.  tablegull_read accepts the joined
+ * sheet.
+ *
+ * A starting value follows the joined trail exactly if it follows the first and
+ * its named words, taken as inputs, follow the second.  The report of a line is
+ * the one that it has on the sheet it came from; the totals may be less than the
+ * sums of both, as a line of the second may repeat one of the first.
+ *
+ * Asks 1 to 16 of the first sheet, then 1 to 16 of the second, then 20 (both
+ * widths), 21 (names, and names_len, which has to be m of the second), 22 (the
+ * lines of both), and 18 last (out_len of the joined sheet's length or more;
+ * TABLEGULL_MAX_SHEET is enough for any).
+ * Number and place do not tell which sheet was refused by 1 to 16: it was the
+ * first if tablegull_read refuses the first, else the second.
+ * The two sheets may be the same bytes; out may not overlap either, nor names.
+ * count: the bytes written, 512 * (1 + lines / 31 rounded up).
+ */
+struct tablegull_answer tablegull_join(const uint8_t *first, size_t first_len,
+                                       const uint8_t *second, size_t second_len,
+                                       const uint64_t *names, size_t names_len,
+                                       uint8_t *out, size_t out_len);
 
 #ifdef __cplusplus
 }

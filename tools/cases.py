@@ -9,14 +9,15 @@ goes into it.
 from pathlib import Path
 
 import clause_cases
+import join_cases
 import program_cases
 import report_cases
 import sheet_cases
 
 CRATE = Path(__file__).resolve().parent.parent / "crates" / "cases"
 # The program's room for its cases.
-MOST_CASES = 9 * 2**15
-SUBJECTS = {"sheets": sheet_cases, "reports": report_cases, "clauses": clause_cases, "texts": program_cases}
+MOST_CASES = 10 * 2**15
+SUBJECTS = {"sheets": sheet_cases, "reports": report_cases, "clauses": clause_cases, "joins": join_cases, "texts": program_cases}
 
 if __name__ == "__main__":
     stdin, stdout = "", ""

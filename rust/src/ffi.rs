@@ -74,4 +74,16 @@ extern "C" {
         out: *mut i32,
         out_len: usize,
     ) -> Answer;
+
+    /// Writes the joined sheet of two; count: the bytes written.
+    pub fn tablegull_join(
+        first: *const u8,
+        first_len: usize,
+        second: *const u8,
+        second_len: usize,
+        names: *const u64,
+        names_len: usize,
+        out: *mut u8,
+        out_len: usize,
+    ) -> Answer;
 }

@@ -15,6 +15,7 @@
 //! | `two_runs` | runs a starting value along the trail | [`Runs`] |
 //! | `clause_counts` | variables and clauses of the sheet | [`ClauseCounts`] |
 //! | `line_clauses` | one line's clauses for a SAT solver | its numbers |
+//! | `join` | joins the trails of two sheets | the joined sheet's bytes |
 //!
 //! A call that is refused returns a [`Refusal`], and leaves every byte of a
 //! sheet as it was. The module `slices` has the same calls over buffers that
@@ -66,7 +67,7 @@ pub const MAX_LINE_CLAUSES: usize = 4944;
 /// The first question about a call's input whose answer is no.
 #[derive(Clone, Copy, Debug, PartialEq, Eq, Hash)]
 pub struct Refusal {
-    /// The question's number, 1 to 19.
+    /// The question's number, 1 to 22.
     pub number: u32,
     /// The block or line at which the answer is no; 0 where none is named.
     pub place: u64,
@@ -98,6 +99,12 @@ impl Refusal {
             17 => "Is the line number below L?",
             18 => "Is the output buffer long enough for this very answer?",
             19 => "Are there exactly m starting words, each below 2^n?",
+            20 => "Have the two sheets the same width?",
+            21 => {
+                "Has the list one name for each input of the second sheet, each a word of the \
+                 first, none twice, and each with its input's difference?"
+            }
+            22 => "Have the two sheets at most 248 lines together?",
             _ => "no question has this number",
         }
     }
@@ -196,4 +203,18 @@ pub fn line_clauses(sheet: &[u8], line: usize) -> Result<Vec<i32>, Refusal> {
     let count = slices::line_clauses(sheet, line, &mut numbers)?;
     numbers.truncate(count);
     Ok(numbers)
+}
+
+/// The joined sheet: the first's inputs and lines, then the second's lines with
+/// operands renumbered. `names` has for each input of the second the word of the
+/// first that it is.
+///
+/// A refusal by one of questions 1 to 16 does not tell which sheet it is about:
+/// it is the first if `read` refuses the first, else the second.
+#[cfg(has_archive)]
+pub fn join(first: &[u8], second: &[u8], names: &[u64]) -> Result<Vec<u8>, Refusal> {
+    let mut sheet = vec![0; MAX_SHEET];
+    let length = slices::join(first, second, names, &mut sheet)?;
+    sheet.truncate(length);
+    Ok(sheet)
 }

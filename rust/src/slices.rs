@@ -117,3 +117,24 @@ pub fn line_clauses(sheet: &[u8], line: usize, out: &mut [i32]) -> Result<usize,
         )
     })
 }
+
+/// Writes the joined sheet: the first's inputs and lines, then the second's
+/// lines with operands renumbered. `names` has for each input of the second the
+/// word of the first that it is. Answers the number of bytes written, at most
+/// [`MAX_SHEET`](crate::MAX_SHEET).
+pub fn join(first: &[u8], second: &[u8], names: &[u64], out: &mut [u8]) -> Result<usize, Refusal> {
+    // SAFETY: each pointer and length are one slice's, and `out` is borrowed
+    // for writing.
+    outcome(unsafe {
+        ffi::tablegull_join(
+            first.as_ptr(),
+            first.len(),
+            second.as_ptr(),
+            second.len(),
+            names.as_ptr(),
+            names.len(),
+            out.as_mut_ptr(),
+            out.len(),
+        )
+    })
+}

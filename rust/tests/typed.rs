@@ -100,3 +100,24 @@ fn clauses_have_their_own_length() {
     assert_eq!(counts.clauses, clauses);
     assert_eq!(counts.variables, 4 * 6 + 2 * 2 * 3);
 }
+
+#[test]
+fn a_joined_sheet_has_its_own_length() {
+    let sheet = sheet();
+    let mut joined = sheet.clone();
+    for lines in (8..=64).step_by(4) {
+        let first = joined;
+        joined = tablegull::join(&first, &sheet, &[0, 1]).expect("sheets that can be joined");
+        let mut lent = [7; tablegull::MAX_SHEET + 1];
+        let length = slices::join(&first, &sheet, &[0, 1], &mut lent);
+        assert_eq!(length, Ok(joined.len()));
+        assert_eq!(lent[..joined.len()], joined[..]);
+        assert_eq!(tablegull::read(&joined), Ok(lines));
+    }
+    assert_eq!(joined.len(), 2048);
+    let refusal = Refusal {
+        number: 21,
+        place: 0,
+    };
+    assert_eq!(tablegull::join(&sheet, &sheet, &[0]), Err(refusal));
+}

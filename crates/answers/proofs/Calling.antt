@@ -3,13 +3,13 @@ use Prim.Native.Nat.{ℕ, _<_, _≤_}
 use native.Mathlib.Nat.{zero-add}
 use native.Mathlib.Omega.{arith}
 use mathlib.Core.Path.{_≡_, sym, ap, subst, _∙_}
-use mathlib.Core.Bool.{true, false, cond}
+use mathlib.Core.Bool.{Bool, true, false, _&&_, cond}
 use mathlib.Core.List.{List, [], _++_, append-nil}
 use borrow.Author.Tests.{lt-ltb, le-ltb, le-leb, lt-leb}
 use lib.Dec.{leb, ltb}
 use lib.ListN.{length}
 use Rattle.buffers.specs.Overwrite.{overwrite, Wrote}
-use Rattle.sheet.specs.Asking.{Question, Verdict, verdict}
+use Rattle.sheet.specs.Asking.{Question, allYes, Verdict, verdict}
 use Rattle.sheet.specs.Asking.Verdict.{accepted, refused}
 use Rattle.sheet.specs.Fields.{headerOf}
 use Rattle.sheet.specs.Questions.{questions}
@@ -22,20 +22,24 @@ use Rattle.answers.specs.declared.Refusal.{Refusal}
 use Rattle.sheet.specs.declared.Mode.the-variants.{Read}
 use Rattle.answers.specs.declared.Reading.{Reading}
 use Rattle.answers.specs.declared.Reading.the-variants.{Accepted, Refused}
-use Rattle.sheet.proofs.Asking.{go-on, stop, verdict-yes, yes-verdict, no-verdict, comes}
+use Rattle.sheet.proofs.Asking.{yes-append, go-on, stop, verdict-yes, yes-verdict, no-verdict, comes}
 use Rattle.sheet.proofs.Asking.Comes.{done, yes, no}
 use Rattle.answers.proofs.Answering.{asked}
 use Rattle.sheet.proofs.WellFormed.{has-read}
 
+-- a stage that refuses: the call refuses with the same number and place, whatever else it asks
+pub refused-by-stage : (qs own : List Question) (h : Header) {A : Type 0} (a : A) (r : Reading) (v w : Refusal) → readingMeans r ≡ verdict qs h
+    → r ≡ Refused v → w ≡ refusalOf r → refused (w .number) (w .place) ≡ verdict (qs ++ own) a
+refused-by-stage qs own h a r v w told e d =
+    ap (λ (x : Refusal). refused (x .number) (x .place)) (d ∙ ap refusalOf e) ∙ sym (stop qs own h a (sym told ∙ ap readingMeans e))
+
 -- ---- what reading answered. `search` takes an answer from the context, and the parts in it, so each law asks for these two facts.
 
 module _ (s : List ℕ) (r : Reading) (read : readingMeans r ≡ verdict (questions Read s) (headerOf s)) where
-  -- a sheet that reading refuses, the call refuses with the same number and place, whatever else it asks
+  -- a sheet that reading refuses
   pub refused-by-reading : {A : Type 0} (own : List Question) (a : A) (v w : Refusal) → r ≡ Refused v → w ≡ refusalOf r
       → refused (w .number) (w .place) ≡ verdict (questions Read s ++ own) a
-  refused-by-reading own a v w e d =
-      ap (λ (x : Refusal). refused (x .number) (x .place)) (d ∙ ap refusalOf e)
-      ∙ sym (stop (questions Read s) own (headerOf s) a (sym read ∙ ap readingMeans e))
+  refused-by-reading own a v w e d = refused-by-stage (questions Read s) own (headerOf s) a r v w read e d
 
   -- the same of a call with no questions of its own
   pub refused-alone : {A : Type 0} (a : A) (v w : Refusal) → r ≡ Refused v → w ≡ refusalOf r
@@ -104,6 +108,14 @@ module _ {A : Type 0} (qs : List Question) (a : A) {r : Answer} where
   c-refused b e d = d ∙ ap answerOf (sym (ap (λ l. verdict l b) (sym (append-nil qs)) ∙ stop qs [] a b e))
 
 -- ---- what a call that writes leaves
+
+-- questions that are answered with yes leave the others to decide
+pub after-yes : {A : Type 0} (xs ys : List Question) (values out : List A) → allYes xs ≡ true → writing (xs ++ ys) values out ≡ writing ys values out
+unfolding writing
+after-yes xs ys values out passed =
+    let answer = go-on xs ys (length values) passed in
+    let all : allYes (xs ++ ys) ≡ allYes ys = yes-append xs ys ∙ ap (λ (t : Bool). t && allYes ys) passed in
+    λ i. record { answer = answer i; buffer = cond (all i) (overwrite 0 values out) out }
 
 module _ {A : Type 0} (asks : List Question) (values out : List A) where
   -- a refusal changes nothing

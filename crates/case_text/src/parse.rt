@@ -49,6 +49,17 @@ fn with_digit(value: usize, digit: u8) -> usize {
     }
 }
 
+// Fills the words with the numbers of a line, and tells the position after them.
+pub fn take_words(words: &mut [u64], line: &[u8], from: usize) -> usize {
+    let mut next = from;
+    for j in 0..words.len() {
+        let word = number(line, next);
+        words[j] = word.value as u64;
+        next = word.next;
+    }
+    next
+}
+
 // Sets the bytes that a line lists from `from` on, each as OFFSET=VALUE.
 pub fn fill(sheet: &mut [u8], line: &[u8], from: usize) {
     let mut at = from;

@@ -4,6 +4,7 @@
 // - `#sheets`: reading and sealing, as `sheet_cases` says;
 // - `#reports`: line reports, totals and the report buffer, as `report_cases` says;
 // - `#clauses`: two runs and clause lists, as `clause_cases` says;
+// - `#joins`: joining, as `join_cases` says;
 // - `#texts`: what the programs print, as `texts` says.
 mod texts;
 
@@ -12,7 +13,7 @@ use case_text::parse::find;
 use libc::STDIN_FILENO;
 
 // Room for all cases.
-const CASES_BYTES: usize = 294912;
+const CASES_BYTES: usize = 327680;
 
 fn main() {
     let mut input = [0u8; CASES_BYTES];
@@ -49,6 +50,7 @@ fn run_case(line: &[u8], subject: u8) {
         b's' => sheet_cases::run_case(line),
         b'r' => report_cases::run_case(line),
         b'c' => clause_cases::run_case(line),
+        b'j' => join_cases::run_case(line),
         _ => run_text(line),
     }
 }

@@ -1,7 +1,6 @@
 // Satisfying assignments and following starting values of a small sheet, each counted over all there are.
 use crate::SHEET_BYTES;
-use crate::following::count_following;
-use crate::following::print_tally;
+use crate::following::print_following;
 use crate::print::print_counts;
 use crate::satisfying::count_satisfying;
 use answers::Reading;
@@ -35,10 +34,10 @@ fn print_small(sheet: &[u8], variables: u32) {
     let Reading::Accepted(header) = reading::read(sheet) else {
         return;
     };
-    if 20 < variables || 4 < header.width || 4 < header.inputs {
+    if 20 < variables {
         return print(b", not counted");
     }
     let satisfying = count_satisfying(sheet, header.lines, variables);
     print_number(b", satisfying ", satisfying);
-    print_tally(count_following(sheet, header.width, header.inputs));
+    print_following(sheet);
 }

@@ -2,6 +2,7 @@
 use crate::SHEET_BYTES;
 use case_text::parse::number;
 use case_text::parse::take_sheet;
+use case_text::parse::take_words;
 use case_text::print::print;
 use case_text::print::print_number;
 use case_text::print::print_refused;
@@ -29,17 +30,6 @@ fn print_start(line: &[u8], from: usize, words: &mut [u64]) {
     let mut sheet = [0u8; SHEET_BYTES];
     let length = take_sheet(&mut sheet, line, next);
     print_runs(two_runs(&sheet[0..length], words));
-}
-
-// Fills the words with the numbers of a line, and tells the position after them.
-fn take_words(words: &mut [u64], line: &[u8], from: usize) -> usize {
-    let mut next = from;
-    for j in 0..words.len() {
-        let word = number(line, next);
-        words[j] = word.value as u64;
-        next = word.next;
-    }
-    next
 }
 
 // The answer of `runs::two_runs`: ` follows`, ` disagree LINE BIT`, or a refusal.

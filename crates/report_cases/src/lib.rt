@@ -11,7 +11,7 @@ mod line_sheet;
 mod one;
 mod rows;
 mod tally;
-mod whole;
+pub mod whole;
 
 use crate::every::run_every;
 use crate::one::run_one;

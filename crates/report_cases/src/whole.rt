@@ -50,7 +50,7 @@ fn print_sheet(sheet: &[u8]) {
 }
 
 // The number of lines of an accepted sheet, else 0; more than a sheet can have are taken for the most.
-fn lines_of(sheet: &[u8]) -> usize
+pub fn lines_of(sheet: &[u8]) -> usize
     ensures { λ r. ⌜ r ≤ 248 ⌝ }
 {
     match reading::read(sheet) {
@@ -65,7 +65,7 @@ fn lines_of(sheet: &[u8]) -> usize
 }
 
 // The reports of all lines, and of the line number after the last.
-fn print_lines(sheet: &[u8], lines: usize)
+pub fn print_lines(sheet: &[u8], lines: usize)
     requires { ⌜ lines ≤ 248 ⌝ }
 {
     for k in 0..=lines {

@@ -3,7 +3,7 @@
 // A case is a line `NAME: LENGTH OFFSET=VALUE OFFSET=VALUE ..`: a sheet of LENGTH bytes, at most 65,536,
 // all 0 but those listed. It is answered by a line, `NAME: read ANSWER; seal ANSWER OFFSET=VALUE ..`, that ends with the
 // bytes that sealing changed.
-mod print;
+pub mod print;
 
 ghost use mathlib.Core.Path.{_≡_};
 ghost use lib.ListN.{length};

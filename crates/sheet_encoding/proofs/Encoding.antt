@@ -1,13 +1,13 @@
 -- A trail's bytes say the trail: each piece stands where its field is read.
-use Prim.Native.Nat.{ℕ, zero, suc, _+_, _*_, _-_, _/_, _%_, _^_, _<_, _≤_}
+use Prim.Native.Nat.{ℕ, zero, suc, _+_, _*_, _-_, _/_, _%_, _^_, _<_}
 use native.Mathlib.Nat.{suc-mul, div-mul-le-self, add-zero, mod-lt, mod-eq-of-lt, div-add-mod, le-div-iff-mul-le, le-trans, lt-of-lt-of-le, pow-le-pow-right, mul-suc, mul-zero}
 use native.Mathlib.Decide.{decLt}
 use native.Mathlib.Omega.{arith}
 use lib.Pow.{pow-pos}
 use mathlib.Core.Path.{_≡_, refl, sym, ap, ap₂, subst, _∙_}
 use mathlib.Core.Bool.{Bool, true, false}
-use mathlib.Core.List.{List, [], _∷_}
-use lib.ListN.{length, getD, replicate, length-append, length-replicate}
+use mathlib.Core.List.{List}
+use lib.ListN.{length, getD, replicate, length-append, length-replicate, List·getD-eq-default}
 use lib.Seq.{ext-getD}
 use Rattle.words.specs.Below.{concat, tabulate}
 use Rattle.words.proofs.Below.{below-suc, tabulate-cong, length-tabulate, getD-tabulate}
@@ -33,7 +33,7 @@ use Rattle.sheet_encoding.proofs.FormLaws.{mark-long, mark-told, words-
 -- ---- pieces of one length
 
 module _ (f : ℕ → List ℕ) (m : ℕ) where
-  pieces-length : (n : ℕ) → ((k : ℕ) → k < n → length (f k) ≡ m) → length (concat n f) ≡ m * n
+  pub pieces-length : (n : ℕ) → ((k : ℕ) → k < n → length (f k) ≡ m) → length (concat n f) ≡ m * n
   unfolding concat
   pieces-length zero h = sym (mul-zero m)
   pieces-length (suc n) h =
@@ -56,12 +56,6 @@ tabulate-all : {A : Type 0} (l : List A) (d : A) → tabulate (length l) (λ k. 
 tabulate-all l d =
     ext-getD d (tabulate (length l) (λ k. getD l k d)) l (length-tabulate (length l) (λ k. getD l k d))
     (λ i less. getD-tabulate (length l) (λ k. getD l k d) i d (omega (arith, length-tabulate (length l) (λ k. getD l k d))))
-
--- past its end there is none
-pub getD-past : {A : Type 0} (l : List A) (i : ℕ) (d : A) → length l ≤ i → getD l i d ≡ d
-getD-past [] i d h = refl
-getD-past (x ∷ xs) zero d h = absurd (omega arith)
-getD-past (x ∷ xs) (suc i) d h = getD-past xs i d (omega arith)
 
 -- ---- a record
 
@@ -127,10 +121,10 @@ record-read f l fits s p st =
 
 -- ---- blocks
 
-inputs-length : (f : Form) (t : Trail) → length (concat 8 (λ j. bytesOf (wordBytes f) (getD (t .inputs) j 0))) ≡ wordBytes f * 8
+pub inputs-length : (f : Form) (t : Trail) → length (concat 8 (λ j. bytesOf (wordBytes f) (getD (t .inputs) j 0))) ≡ wordBytes f * 8
 inputs-length f t = pieces-length (λ j. bytesOf (wordBytes f) (getD (t .inputs) j 0)) (wordBytes f) 8 (λ j _. length-bytesOf (wordBytes f) (getD (t .inputs) j 0))
 
-header-length : (f : Form) (t : Trail) → length (headerBlock f t) ≡ 512
+pub header-length : (f : Form) (t : Trail) → length (headerBlock f t) ≡ 512
 unfolding headerBlock
 header-length f t =
     simp (length-append, length-bytesOf, length-replicate, mark-long, inputs-length) (omega (arith, sizes f .inputs-inside))
@@ -143,7 +137,7 @@ unfolding records
 records-length f t i =
     pieces-length (records f t i) (recordBytes f) (recordsInBlock f) (λ j _. record-length f (lineAt t (recordsInBlock f * i + j)))
 
-line-block-length : (f : Form) (t : Trail) (i : ℕ) → length (lineBlock f t i) ≡ 512
+pub line-block-length : (f : Form) (t : Trail) (i : ℕ) → length (lineBlock f t i) ≡ 512
 unfolding lineBlock records
 line-block-length f t i =
     length-append (concat (recordsInBlock f) (records f t i)) (replicate (blockBytes - recordBytes f * recordsInBlock f) 0)
@@ -223,7 +217,7 @@ module _ (f : Form) {t : Trail} (good : WellFormed t) (sized : Sized (widthMost 
     where
       at : Dec (j < inputCount t) → getD (t .inputs) j 0 < 256 ^ wordBytes f
       at (yes less) = word-fits _ (good .inputs-words j less)
-      at (no past) = rw (getD-past (t .inputs) j 0 (omega arith)) word-some
+      at (no past) = rw (List·getD-eq-default (t .inputs) 0 {n = j} (omega arith)) word-some
 
   abbrev s : List ℕ
   s = encode f t

@@ -7,7 +7,7 @@ use mathlib.Core.Bool.{Bool, true, false, not, _&&_, _||_, cond, and-eq-true-iff
 use mathlib.Core.List.{List}
 use borrow.Author.Tests.{eq-eqb, ne-eqb, lt-ltb, le-ltb, le-leb, ltb-false}
 use lib.Dec.{eqb, ltb}
-use lib.ListN.{length, getD, replicate, getD-replicate, length-replicate}
+use lib.ListN.{length, getD, replicate, getD-replicate, length-replicate, List·getD-eq-default}
 use Rattle.words.specs.Words.{isWord}
 use Rattle.words.specs.Below.{all, concat}
 use Rattle.words.proofs.Below.{all-yes}
@@ -33,7 +33,7 @@ use Rattle.sheet.proofs.Asking.Comes.{done, yes as right}
 use Rattle.sheet.proofs.FormSizes.{sizes, blocks-enough}
 use Rattle.sheet_encoding.specs.Encoding.{recordBytesOf, headerBlock, lineBlock, encode}
 use Rattle.sheet_encoding.proofs.FormLaws.{mark-there, blocks-fit, no-line-zero}
-use Rattle.sheet_encoding.proofs.Encoding.{asRecord, getD-past, encode-length, header-stands, line-block-stands, piece-stands, block-there, records, records-length, header-read, line-read, encode-form}
+use Rattle.sheet_encoding.proofs.Encoding.{asRecord, encode-length, header-stands, line-block-stands, piece-stands, block-there, records, records-length, header-read, line-read, encode-form}
 
 -- ---- tests
 
@@ -128,7 +128,7 @@ module _ (f : Form) {t : Trail} (good : WellFormed t) (sized : Sized (widthMost 
     where
       at : Dec (j < inputCount t) → cond (ltb j (inputCount t)) (isWord (t .width) (getD (t .inputs) j 0)) (eqb (getD (t .inputs) j 0) 0) ≡ true
       at (yes there) = rw (lt-ltb j (inputCount t) there) (lt-ltb (getD (t .inputs) j 0) (2 ^ t .width) (good .inputs-words j there))
-      at (no past) = rw (le-ltb j (inputCount t) (omega arith)) (eq-eqb (getD (t .inputs) j 0) 0 (getD-past (t .inputs) j 0 (omega arith)))
+      at (no past) = rw (le-ltb j (inputCount t) (omega arith)) (eq-eqb (getD (t .inputs) j 0) 0 (List·getD-eq-default (t .inputs) 0 {n = j} (omega arith)))
 
   header-asked : allYes (headerQuestions s parts) ≡ true
   unfolding headerQuestions linesRight headerBlock
@@ -157,7 +157,7 @@ module _ (f : Form) {t : Trail} (good : WellFormed t) (sized : Sized (widthMost 
       unless (ltb (recordsInBlock f * i + j) (lineCount t)) _
       (λ e.
       let past : lineCount t ≤ recordsInBlock f * i + j = ltb-false _ _ e in
-      let there = subst (λ (line : Line). Stands (512 + 512 * i + recordBytes f * j) (recordBytesOf f line) s) (getD-past (t .lines) (recordsInBlock f * i + j) noLine past) (piece-stands f t i j l g) in
+      let there = subst (λ (line : Line). Stands (512 + 512 * i + recordBytes f * j) (recordBytesOf f line) s) (List·getD-eq-default (t .lines) noLine past) (piece-stands f t i j l g) in
       zeros (recordBytes f) (recordBytes f) (blockBytes * (1 + i) + recordBytes f * j) s (omega arith)
       (stands-at (omega arith) (subst (λ (bytes : List ℕ). Stands (512 + 512 * i + recordBytes f * j) bytes s) (no-line-zero f) there)))
 

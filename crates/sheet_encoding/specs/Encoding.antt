@@ -46,12 +46,16 @@ lineBlock f t i =
 unfoldable pub encode : Form → Trail → List ℕ
 encode f t = headerBlock f t ++ concat (lineBlocks f (lineCount t)) (lineBlock f t)
 
+-- the sheet of a trail: its bytes, with the check of every block
+abbrev pub sheetOf : Form → Trail → List ℕ
+sheetOf f t = withChecks (headerOf (encode f t) .blocks) (encode f t)
+
 -- The bytes of a trail are of their form and say the trail; with their checks written they are accepted, and say it still.
 pub record Encoded (f : Form) (t : Trail) : Type 0 where
   pub same-form : formOf (encode f t) ≡ f
   pub same-trail : trailOf (encode f t) ≡ t
-  pub accepted : IsAccepted (withChecks (headerOf (encode f t) .blocks) (encode f t))
-  pub checked-trail : trailOf (withChecks (headerOf (encode f t) .blocks) (encode f t)) ≡ t
+  pub accepted : IsAccepted (sheetOf f t)
+  pub checked-trail : trailOf (sheetOf f t) ≡ t
 
 abbrev pub EncodingIsRight : Type 0
 EncodingIsRight = (f : Form) (t : Trail) → WellFormed t → Sized (widthMost f) t → Encoded f t

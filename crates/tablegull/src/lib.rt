@@ -12,9 +12,11 @@ ghost use Rattle.report_c.specs.Calls.{lineReportCall, totalsCall};
 ghost use Rattle.runs_c.specs.Calls.{outcomeCall};
 ghost use Rattle.clauses.specs.Answers.{listCall};
 ghost use Rattle.clauses_c.specs.Calls.{countsCall};
+ghost use Rattle.joining.specs.Answers.{joinCall};
 use answers::Answer;
 use clauses_c::clause_counts;
 use clauses_c::line_clauses;
+use joining_c::join;
 use reading_c::read;
 use report_c::line_report;
 use report_c::reports;
@@ -91,4 +93,18 @@ pub extern "C" fn tablegull_line_clauses(sheet: &[u8], line: u64, out: &mut [i32
         × (now (out .exit) ≡ listCall (now (sheet .entry)) line (now (out .entry)) .buffer) ⌝ }
 {
     line_clauses(sheet, line, out)
+}
+
+// Writes the joined sheet of two. Counts bytes.
+#[no_mangle]
+pub extern "C" fn tablegull_join(
+    first: &[u8],
+    second: &[u8],
+    names: &[u64],
+    out: &mut [u8],
+) -> Answer
+    ensures { λ r. ⌜ (r ≡ answerOf (joinCall (now (first .entry)) (now (second .entry)) (now (names .entry)) (now (out .entry)) .answer))
+        × (now (out .exit) ≡ joinCall (now (first .entry)) (now (second .entry)) (now (names .entry)) (now (out .entry)) .buffer) ⌝ }
+{
+    join(first, second, names, out)
 }

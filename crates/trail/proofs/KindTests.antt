@@ -5,7 +5,7 @@ use mathlib.Core.Path.{_≡_, refl}
 use mathlib.Core.Logic.{_⊎_, inl, inr}
 use mathlib.Core.Bool.{true, false}
 use Rattle.trail.specs.Kinds.{kindOf, usesSecond, usesAmount, usesConstant, wantsDistinct}
-use Rattle.trail.proofs.KindNumbers.{at-keys, in-range, numbersWith, no-number}
+use Rattle.trail.proofs.KindNumbers.{at-keys, in-range, numbersWith, with-number, no-number}
 
 pub second-used : (k : ℕ) → (k ≡ 1) ⊎ ((k ≡ 5) ⊎ (k ≡ 9)) → usesSecond (kindOf k) ≡ true
 unfolding kindOf
@@ -30,6 +30,12 @@ distinct-wanted k h = at-keys (λ q. wantsDistinct q ≡ true) (numbersWith want
 pub distinct-unwanted : (k : ℕ) → ((k ≡ 5) ⊎ (k ≡ 9) → ⊥) → wantsDistinct (kindOf k) ≡ false
 unfolding kindOf
 distinct-unwanted k h = no-number wantsDistinct k refl h
+
+-- operands that must name different words are two
+pub distinct-second : (k : ℕ) → wantsDistinct (kindOf k) ≡ true → usesSecond (kindOf k) ≡ true
+unfolding kindOf
+distinct-second k wanted =
+    at-keys (λ q. usesSecond q ≡ true) (numbersWith wantsDistinct) k (with-number wantsDistinct k refl wanted) (refl, (refl, tt))
 
 -- the rotations and the shifts are a range of numbers each
 pub amount-of-rotation : (k : ℕ) → 3 ≤ k → k < 5 → usesAmount (kindOf k) ≡ true

@@ -5,3 +5,8 @@ pub mod Runs
 pub mod Differences
 pub mod KindExamples
 pub mod Repeats
+pub mod JoinedNames
+pub mod JoinedLines
+pub mod JoinedWellFormed
+pub mod JoinedRuns
+pub mod JoinedExample

@@ -3,3 +3,4 @@ pub mod Trail
 pub mod Runs
 pub mod WellFormed
 pub mod Repeats
+pub mod Joining

@@ -1,8 +1,8 @@
 -- Laws of tests, counts, sums and lists over the numbers below a bound.
 use mathlib.Core.Path.{_≡_, refl, sym, ap, ap₂, subst, _∙_}
 use mathlib.Core.Bool.{Bool, true, false, _&&_, _||_, cond, and-assoc, and-eq-true-iff, and-true, or-false, or-true, or-assoc, true≢false}
-use mathlib.Core.List.{List, [], _∷_, _++_}
-use Prim.Native.Nat.{ℕ, zero, suc, _+_, _*_, _/_, _%_, _≤_, _<_}
+use mathlib.Core.List.{List, [], _∷_, _++_, map}
+use Prim.Native.Nat.{ℕ, zero, suc, _+_, _-_, _*_, _/_, _%_, _≤_, _<_}
 use native.Mathlib.Decide.{decLt}
 use native.Mathlib.Nat.{add-zero, mul-add, mul-zero, suc-mul, zero-mul}
 use native.Mathlib.Numerals.{add-one}
@@ -25,6 +25,17 @@ below-suc P b h here k l = at (decLt k b)
       where
         same : b ≡ k
         same = omega arith
+
+-- a number is below m, or m and some more
+pub below-or-past : (P : ℕ → Type 0) (m : ℕ) → ((j : ℕ) → j < m → P j) → ((k : ℕ) → P (m + k)) → (j : ℕ) → P j
+below-or-past P m low high j = at (decLt j m)
+  where
+    at : Dec (j < m) → P j
+    at (yes less) = low j less
+    at (no not-less) = subst P whole (high (j - m))
+      where
+        whole : m + (j - m) ≡ j
+        whole = omega arith
 
 -- What goes up from bound to bound by the value at each depends on the values below the bound alone.
 step-cong : {A B : Type 0} (F : ℕ → (ℕ → A) → B) (step : B → A → B)
@@ -107,6 +118,11 @@ any-shift (suc b) p = ap (λ t. t || p (suc b)) (any-shift b p) ∙ or-assoc (p 
 pub any-none : (p : ℕ → Bool) → any 0 p ≡ false
 unfolding any
 any-none p = refl
+
+pub any-no : (b : ℕ) (p : ℕ → Bool) → ((k : ℕ) → k < b → p k ≡ false) → any b p ≡ false
+unfolding any
+any-no zero p h = refl
+any-no (suc b) p h = ap (λ t. t || p b) (any-no b p (λ k l. h k (omega arith))) ∙ h b (omega arith)
 
 pub any-next : (k : ℕ) (p : ℕ → Bool) → any k p ≡ false → p k ≡ false → any (k + 1) p ≡ false
 unfolding any
@@ -240,6 +256,12 @@ count-product (suc a) b p h =
 -- ---- lists
 
 module _ {A : Type 0} where
+  -- an element of a mapped list, whatever the default
+  pub getD-map-below : {B : Type 0} (f : A → B) (l : List A) (i : ℕ) (d : A) (e : B) → i < length l → getD (map f l) i e ≡ f (getD l i d)
+  getD-map-below f [] i d e h = absurd (omega arith)
+  getD-map-below f (x ∷ xs) zero d e h = refl
+  getD-map-below f (x ∷ xs) (suc i) d e h = getD-map-below f xs i d e (omega arith)
+
   pub tabulate-cong : (b : ℕ) (f g : ℕ → A) → ((k : ℕ) → k < b → f k ≡ g k) → tabulate b f ≡ tabulate b g
   unfolding tabulate
   tabulate-cong = step-cong tabulate (λ l x. l ++ (x ∷ [])) (λ f g. refl) (λ b f. refl)

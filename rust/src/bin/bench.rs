@@ -19,7 +19,7 @@ use std::time::{Duration, Instant};
 use tablegull::builder::{Line, SheetBuilder};
 use tablegull::reference::{self, Sheet};
 use tablegull::text::TextWriter;
-use tablegull::{Refusal, LINE_REPORT, MAX_LINES, MAX_LINE_CLAUSES};
+use tablegull::{Refusal, LINE_REPORT, MAX_LINES, MAX_LINE_CLAUSES, MAX_SHEET};
 
 /// Rounds of what takes microseconds. What takes milliseconds has one round in
 /// so many of these.
@@ -30,11 +30,15 @@ const ROUNDS_TO_A_LONG_ONE: usize = 4;
 const TIME_OF_ONE_MEASURE: Duration = Duration::from_micros(400);
 
 fn main() {
-    let mixed = sheet_of(&[1, 2, 3, 4, 5, 6, 7, 8, 9]);
-    let additions = sheet_of(&[5]);
+    let mixed = sheet_of(&[1, 2, 3, 4, 5, 6, 7, 8, 9], MAX_LINES);
+    let halves = [
+        sheet_of(&[1, 2, 3, 4, 5, 6, 7, 8, 9], MAX_LINES / 2),
+        sheet_of(&[9, 8, 7, 6, 5, 4, 3, 2, 1], MAX_LINES / 2),
+    ];
+    let additions = sheet_of(&[5], MAX_LINES);
     let same_operands = sheet_of_sums(1);
     let few_operands = sheet_of_sums(2);
-    let constants = sheet_of(&[6]);
+    let constants = sheet_of(&[6], MAX_LINES);
     for sheet in [&additions, &same_operands, &few_operands] {
         assert_every_line_charged(sheet);
     }
@@ -51,6 +55,7 @@ fn main() {
         Case::new("report, kind 6 only", report(&constants)),
         Case::new("one list, kind 5", list(&additions)),
         Case::new("one list, kind 6", list(&constants)),
+        Case::new("join, 124 + 124 lines, mixed", join(&halves)),
     ];
     let mut long_cases = [
         Case::new("clause text by calls, mixed", text_by_calls(&mixed)),
@@ -112,6 +117,8 @@ fn print_bound(cases: &[Case], sheet: &str, most: f64, text: fn(f64) -> String) 
 
 type Outcome = Result<usize, Refusal>;
 
+type Join = fn(&[u8], &[u8], &[u64], &mut [u8]) -> Outcome;
+
 /// The calls that are timed, the archive's or the reference's.
 #[derive(Clone, Copy)]
 struct Calls {
@@ -119,6 +126,7 @@ struct Calls {
     report: fn(&[u8], &mut [u8]) -> Outcome,
     totals: fn(&[u8], &mut [u64]) -> Outcome,
     line_clauses: fn(&[u8], usize, &mut [i32]) -> Outcome,
+    join: Join,
 }
 
 const REFERENCE: Calls = Calls {
@@ -126,6 +134,7 @@ const REFERENCE: Calls = Calls {
     report: reference::report,
     totals: reference::totals,
     line_clauses: reference::line_clauses,
+    join: reference::join,
 };
 
 #[cfg(has_archive)]
@@ -134,6 +143,7 @@ const ARCHIVE: Option<Calls> = Some(Calls {
     report: tablegull::slices::report,
     totals: tablegull::slices::totals,
     line_clauses: tablegull::slices::line_clauses,
+    join: tablegull::slices::join,
 });
 
 #[cfg(not(has_archive))]
@@ -166,6 +176,17 @@ fn list(sheet: &[u8]) -> impl FnMut(Calls) + '_ {
     let mut out = [0; MAX_LINE_CLAUSES];
     move |calls| {
         (calls.line_clauses)(black_box(sheet), MAX_LINES - 1, &mut out).expect("accepted");
+        black_box(&out);
+    }
+}
+
+/// The sheet of both, where each input of the second is that of the first.
+fn join(sheets: &[Vec<u8>; 2]) -> impl FnMut(Calls) + '_ {
+    let names = [0, 1, 2, 3, 4, 5, 6, 7];
+    let mut out = [0; MAX_SHEET];
+    move |calls| {
+        let [first, second] = black_box(sheets);
+        (calls.join)(first, second, &names, &mut out).expect("two that can be joined");
         black_box(&out);
     }
 }
@@ -330,16 +351,16 @@ fn time(nanoseconds: f64) -> String {
     }
 }
 
-/// A sheet of full size with lines of these kinds in turn. Its differences are
-/// those of two runs, so that no line is impossible, and its lines are all
-/// different, so that none is a repeat.
-fn sheet_of(kinds: &[u8]) -> Vec<u8> {
+/// A sheet with so many lines, of these kinds in turn. Its differences are those
+/// of two runs, so that no line is impossible, and its lines are all different,
+/// so that none is a repeat. The inputs' differences are the same in all sheets.
+fn sheet_of(kinds: &[u8], count: usize) -> Vec<u8> {
     let mut random = Random(1);
     let mut first: Vec<u32> = (0..8).map(|_| random.word()).collect();
     let mut second: Vec<u32> = first.iter().map(|x| x ^ random.sparse_word()).collect();
     let differences: Vec<u32> = first.iter().zip(&second).map(|(x, y)| x ^ y).collect();
-    let mut lines = Vec::with_capacity(MAX_LINES);
-    while lines.len() < MAX_LINES {
+    let mut lines = Vec::with_capacity(count);
+    while lines.len() < count {
         let kind = kinds[lines.len() % kinds.len()];
         // The two operands have different remainders modulo 2.
         let a = random.word() as usize % (first.len() / 2) * 2;

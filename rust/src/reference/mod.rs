@@ -8,6 +8,7 @@
 //! all lines.
 
 mod clauses;
+mod joining;
 mod line_report;
 mod runs;
 mod sheet;
@@ -99,6 +100,13 @@ pub fn line_clauses(sheet: &[u8], line: usize, out: &mut [i32]) -> Result<usize,
     let out = ask_room(out, need)?;
     sheet.line_clauses(line, out);
     Ok(need)
+}
+
+/// Writes the joined sheet: the first's inputs and lines, then the second's
+/// lines with operands renumbered. `names` has for each input of the second the
+/// word of the first that it is. Answers the number of bytes written.
+pub fn join(first: &[u8], second: &[u8], names: &[u64], out: &mut [u8]) -> Result<usize, Refusal> {
+    joining::join(first, second, names, out)
 }
 
 /// Is the line number below L? 17

@@ -1,4 +1,5 @@
-//! The sheet's layout, the questions about it, and sealing.
+//! The sheet's layout, the questions about it, sealing, and writing with more
+//! lines.
 
 use super::{refuse, refuse_unless};
 use crate::{Refusal, MAX_LINES, MAX_SHEET};
@@ -61,7 +62,19 @@ impl Record {
         }
     }
 
-    fn names_two_words(&self) -> bool {
+    fn encode(&self) -> [u8; RECORD] {
+        let mut bytes = [0; RECORD];
+        bytes[0] = self.kind;
+        bytes[1] = self.amount;
+        bytes[2..4].copy_from_slice(&self.first.to_le_bytes());
+        bytes[4..6].copy_from_slice(&self.second.to_le_bytes());
+        bytes[6..8].copy_from_slice(&self.zero.to_le_bytes());
+        bytes[8..12].copy_from_slice(&self.constant.to_le_bytes());
+        bytes[12..16].copy_from_slice(&self.difference.to_le_bytes());
+        bytes
+    }
+
+    pub(super) fn names_two_words(&self) -> bool {
         matches!(self.kind, XOR | ADD | SUBTRACT)
     }
 
@@ -82,6 +95,11 @@ impl Record {
             && (self.names_two_words() || self.second == 0)
             && (self.has_constant() || self.constant == 0)
     }
+}
+
+/// The bytes of a sheet of so many lines.
+pub(super) fn length(lines: usize) -> usize {
+    BLOCK * (1 + lines.div_ceil(LINES_IN_BLOCK))
 }
 
 /// The ones below 2^width.
@@ -117,8 +135,8 @@ impl<'a> Sheet<'a> {
     }
 
     pub(super) fn record(&self, line: usize) -> Record {
-        let start = BLOCK * (1 + line / LINES_IN_BLOCK) + RECORD * (line % LINES_IN_BLOCK);
-        Record::decode(self.bytes[start..].first_chunk().expect("line below L"))
+        let bytes = &self.bytes[record_start(line)..];
+        Record::decode(bytes.first_chunk().expect("line below L"))
     }
 
     /// The lines' records in order.
@@ -143,6 +161,26 @@ impl<'a> Sheet<'a> {
     pub(super) fn input_differences(&self) -> impl Iterator<Item = u32> + 'a {
         let bytes = self.bytes;
         (0..self.inputs).map(move |word| input_difference(bytes, word))
+    }
+
+    /// Writes this sheet with more lines after its own, and with checks, over
+    /// the whole of `out`, which must have just the length of a sheet of so many
+    /// lines in all.
+    pub(super) fn write_with_more_lines(
+        &self,
+        more: impl Iterator<Item = Record>,
+        lines: usize,
+        out: &mut [u8],
+    ) {
+        let (own, rest) = out.split_at_mut(self.bytes.len());
+        own.copy_from_slice(self.bytes);
+        rest.fill(0);
+        out[6..8].copy_from_slice(&(lines as u16).to_le_bytes());
+        for (line, record) in (self.lines..).zip(more) {
+            let start = record_start(line);
+            out[start..start + RECORD].copy_from_slice(&record.encode());
+        }
+        write_checks(out);
     }
 
     /// Questions 9 to 15 about one line.
@@ -193,11 +231,15 @@ impl<'a> Sheet<'a> {
 pub(super) fn seal(bytes: &mut [u8]) -> Result<usize, Refusal> {
     ask_length(bytes)?;
     read_contents(bytes)?;
+    write_checks(bytes);
+    Ok(bytes.len() / BLOCK)
+}
+
+fn write_checks(bytes: &mut [u8]) {
     for (index, block) in bytes.chunks_exact_mut(BLOCK).enumerate() {
         let check = block_check(block, index);
         block[CHECK..].copy_from_slice(&check.to_le_bytes());
     }
-    Ok(bytes.len() / BLOCK)
 }
 
 /// Questions 3 to 16.
@@ -265,6 +307,11 @@ fn blocks(bytes: &[u8]) -> std::slice::ChunksExact<'_, u8> {
 
 fn line_blocks(bytes: &[u8]) -> std::slice::ChunksExact<'_, u8> {
     blocks(&bytes[BLOCK..])
+}
+
+/// Where a line's record starts.
+fn record_start(line: usize) -> usize {
+    BLOCK * (1 + line / LINES_IN_BLOCK) + RECORD * (line % LINES_IN_BLOCK)
 }
 
 fn input_difference(bytes: &[u8], word: usize) -> u32 {

@@ -4,12 +4,17 @@
 // Each test file is compiled with this module and uses a part of it.
 #![allow(dead_code)]
 
+pub mod damage;
+pub mod pairs;
+
 use tablegull::builder::{Line, SheetBuilder};
 use tablegull::{reference, Refusal};
 
 pub type Outcome = Result<usize, Refusal>;
 
-/// The eight calls of one implementation.
+type Join = fn(&[u8], &[u8], &[u64], &mut [u8]) -> Outcome;
+
+/// The nine calls of one implementation.
 #[derive(Clone, Copy)]
 pub struct Calls {
     pub name: &'static str,
@@ -21,6 +26,7 @@ pub struct Calls {
     pub two_runs: fn(&[u8], &[u64], &mut [u64]) -> Outcome,
     pub clause_counts: fn(&[u8], &mut [u64]) -> Outcome,
     pub line_clauses: fn(&[u8], usize, &mut [i32]) -> Outcome,
+    pub join: Join,
 }
 
 pub const REFERENCE: Calls = Calls {
@@ -33,6 +39,7 @@ pub const REFERENCE: Calls = Calls {
     two_runs: reference::two_runs,
     clause_counts: reference::clause_counts,
     line_clauses: reference::line_clauses,
+    join: reference::join,
 };
 
 #[cfg(has_archive)]
@@ -46,6 +53,7 @@ pub const ARCHIVE: Calls = Calls {
     two_runs: tablegull::slices::two_runs,
     clause_counts: tablegull::slices::clause_counts,
     line_clauses: tablegull::slices::line_clauses,
+    join: tablegull::slices::join,
 };
 
 /// The reference, and the archive where it is there.
@@ -121,6 +129,13 @@ impl Calls {
         out[..length].chunks(16).map(Report::parse).collect()
     }
 
+    /// Whether two runs of an accepted sheet follow, and where they do not.
+    pub fn runs(&self, sheet: &[u8], start: &[u64]) -> [u64; 3] {
+        let mut out = [0; 3];
+        assert_eq!((self.two_runs)(sheet, start, &mut out), Ok(3));
+        out
+    }
+
     /// The totals of an accepted sheet: impossible lines, weight, chains.
     pub fn sheet_totals(&self, sheet: &[u8]) -> [u64; 3] {
         let mut out = [0; 3];
@@ -175,6 +190,18 @@ impl Step {
             8 => Line::shift_right(self.first, self.amount, self.difference),
             9 => Line::subtract(self.first, self.second, self.difference),
             kind => panic!("there is no kind {kind}"),
+        }
+    }
+
+    /// The line with other numbers for the words that it names.
+    pub fn renumbered(&self, numbers: &[u16]) -> Step {
+        Step {
+            first: numbers[usize::from(self.first)],
+            second: match self.kind {
+                1 | 5 | 9 => numbers[usize::from(self.second)],
+                _ => 0,
+            },
+            ..*self
         }
     }
 
@@ -249,6 +276,41 @@ impl Program {
         let mut bytes = builder.unsealed();
         write_checks(&mut bytes);
         bytes
+    }
+
+    /// The program of an accepted sheet.
+    pub fn parse(sheet: &[u8]) -> Program {
+        let number = |at, size| {
+            let bytes: &[u8] = &sheet[at..at + size];
+            bytes
+                .iter()
+                .rev()
+                .fold(0, |number, &byte| number << 8 | u32::from(byte))
+        };
+        let step = |line| {
+            let at = 512 * (1 + line / 31) + 16 * (line % 31);
+            Step {
+                kind: sheet[at],
+                amount: sheet[at + 1],
+                first: number(at + 2, 2) as u16,
+                second: number(at + 4, 2) as u16,
+                constant: number(at + 8, 4),
+                difference: number(at + 12, 4),
+            }
+        };
+        Program {
+            width: sheet[4].into(),
+            inputs: (0..usize::from(sheet[5]))
+                .map(|word| number(8 + 4 * word, 4))
+                .collect(),
+            steps: (0..number(6, 2) as usize).map(step).collect(),
+        }
+    }
+
+    /// The stated differences of all words, the inputs first.
+    pub fn differences(&self) -> Vec<u32> {
+        let stated = self.steps.iter().map(|step| step.difference);
+        self.inputs.iter().copied().chain(stated).collect()
     }
 
     pub fn run(&self, start: &[u64]) -> Vec<u64> {
@@ -366,6 +428,14 @@ pub fn random_program(
     lines: usize,
 ) -> (Program, Vec<u64>) {
     let inputs = (0..inputs).map(|_| random.difference(width)).collect();
+    let mut program = random_steps(random, width, inputs, lines);
+    let start = program.random_start(random);
+    program.state_differences_of(&start);
+    (program, start)
+}
+
+/// A random program with these differences of its inputs, and with none stated.
+pub fn random_steps(random: &mut Random, width: u32, inputs: Vec<u32>, lines: usize) -> Program {
     let mut program = Program {
         width,
         inputs,
@@ -380,9 +450,7 @@ pub fn random_program(
         };
         program.steps.push(step);
     }
-    let start = program.random_start(random);
-    program.state_differences_of(&start);
-    (program, start)
+    program
 }
 
 fn random_step(random: &mut Random, width: u32, words: usize) -> Step {

@@ -3,8 +3,8 @@ use Prim.Native.Nat.{_-_}
 use mathlib.Core.Path.{_≡_}
 use lib.ListN.{length}
 use borrow.Author.Needs.{needs}
-use Rattle.clause_cases.proofs.starts.take_words.Statement.{statement}
-use Rattle.clause_cases.proofs.starts.take_words.Tie as tie
+use Rattle.case_text.proofs.parse.take_words.Statement.{statement}
+use Rattle.case_text.proofs.parse.take_words.Tie as tie
 
 abbrev Inv-loop : tie.InvT-loop
 Inv-loop words₀ line from next₀ j₀ j-end words next j = length words ≡ length words₀

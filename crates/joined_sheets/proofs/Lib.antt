@@ -1,0 +1,2 @@
+pub mod JoinedReports
+pub mod Joined

@@ -1,0 +1,2 @@
+pub mod JoinedSheet
+pub mod Theorem

@@ -1,0 +1,4 @@
+pub mod Pieces
+pub mod RecordBytes
+pub mod HeaderBytes
+pub mod SheetBytes
