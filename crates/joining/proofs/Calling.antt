@@ -1,16 +1,13 @@
 -- What the call answers, from what its stages answered.
 use Prim.Native.Nat.{ℕ, _+_, _*_, _≤_, _<_}
 use native.Mathlib.Omega.{arith}
-use mathlib.Core.Path.{_≡_, sym, ap, ap₂, _∙_}
+use mathlib.Core.Path.{_≡_, sym, ap, _∙_}
 use mathlib.Core.Bool.{true}
 use mathlib.Core.List.{List, _++_}
 use borrow.Author.Tests.{le-leb, lt-leb}
 use lib.ListN.{length}
-use Rattle.trail.specs.Trail.{lineCount}
-use Rattle.trail.proofs.JoinedLines.{joined-count}
 use Rattle.sheet.specs.Asking.{Question, allYes, verdict}
 use Rattle.sheet.specs.Asking.Verdict.{accepted, refused}
-use Rattle.sheet.specs.Fields.{trailOf}
 use Rattle.sheet.specs.Facts.{SheetRead}
 use Rattle.sheet.specs.Questions.{lineBlocks, questions, roomQuestions}
 use Rattle.sheet.specs.declared.Header.{Header}
@@ -24,13 +21,10 @@ use Rattle.answers.proofs.Answering.{asked}
 use Rattle.answers.proofs.Calling.{after-yes}
 use Rattle.sheet_encoding.specs.Encoding.{sheetOf}
 use Rattle.sheet_writer.proofs.SheetBytes.{sheet-length}
+use Rattle.joined_writer.proofs.JoinedCounts.{joined-lines}
 use Rattle.joined_sheets.specs.JoinedSheet.{joinQuestions, joinedTrail, joinedSheet}
 use Rattle.joined_sheets.proofs.Joined.{few-lines, can}
 use Rattle.joining.specs.Answers.{ownCall, joinCall}
-
-pub joined-lines : {first second : List ℕ} {a b : Header} → SheetRead first a → SheetRead second b → (names : List ℕ)
-    → lineCount (joinedTrail first second names) ≡ a .lines + b .lines
-joined-lines {first} {second} one two names = joined-count (trailOf first) (trailOf second) names ∙ ap₂ _+_ (one .lines) (two .lines)
 
 module _ {first second : List ℕ} (names out : List ℕ) {a b : Header} (one : SheetRead first a) (two : SheetRead second b) where
   abbrev own : List Question

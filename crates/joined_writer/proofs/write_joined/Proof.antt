@@ -11,9 +11,9 @@ use Rattle.sheet_encoding.proofs.Encoding.{header-length}
 use Rattle.sheet_encoding.proofs.FormLaws.{blocks-fit}
 use Rattle.sheet_writer.proofs.SheetBytes.{sheet-written}
 use Rattle.joined_sheets.specs.JoinedSheet.{joinedTrail, joinedSheet}
-use Rattle.joining.proofs.Calling.{joined-lines}
-use Rattle.joining.proofs.write_joined.Statement.{statement}
-use Rattle.joining.proofs.write_joined.Tie as tie
+use Rattle.joined_writer.proofs.JoinedCounts.{joined-lines}
+use Rattle.joined_writer.proofs.write_joined.Statement.{statement}
+use Rattle.joined_writer.proofs.write_joined.Tie as tie
 
 add-lines : tie.Need-add-lines
 add-lines c = search needs

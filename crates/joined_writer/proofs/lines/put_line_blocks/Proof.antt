@@ -10,8 +10,8 @@ use Rattle.sheet_encoding.specs.Encoding.{lineBlock}
 use Rattle.sheet_encoding.proofs.Encoding.{line-block-length}
 use Rattle.sheet_writer.proofs.Pieces.{pieces-none, pieces-place, pieces-next}
 use Rattle.joined_sheets.specs.JoinedSheet.{joinedTrail}
-use Rattle.joining.proofs.lines.put_line_blocks.Statement.{statement}
-use Rattle.joining.proofs.lines.put_line_blocks.Tie as tie
+use Rattle.joined_writer.proofs.lines.put_line_blocks.Statement.{statement}
+use Rattle.joined_writer.proofs.lines.put_line_blocks.Tie as tie
 
 abbrev Inv-loop : tie.InvT-loop
 Inv-loop first a second b names blocks out₀ at next₀ i₀ out next i =

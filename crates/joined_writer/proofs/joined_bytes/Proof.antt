@@ -4,8 +4,8 @@ use Prim.Native.Nat.{_+_}
 use borrow.Author.Needs.{needs}
 use Rattle.sheet.proofs.FormSizes.{blocks-enough}
 use Rattle.sheet_encoding.proofs.FormLaws.{blocks-fit}
-use Rattle.joining.proofs.joined_bytes.Statement.{statement}
-use Rattle.joining.proofs.joined_bytes.Tie as tie
+use Rattle.joined_writer.proofs.joined_bytes.Statement.{statement}
+use Rattle.joined_writer.proofs.joined_bytes.Tie as tie
 
 add-line-blocks : tie.Need-add-line-blocks
 add-line-blocks c = search needs

@@ -16,8 +16,8 @@ use Rattle.sheet_encoding.specs.Encoding.{recordBytesOf, lineBlock}
 use Rattle.sheet_encoding.proofs.Encoding.{record-length, pieces-length}
 use Rattle.sheet_writer.proofs.Pieces.{pieces-none, pieces-place, pieces-next}
 use Rattle.joined_sheets.specs.JoinedSheet.{joinedTrail}
-use Rattle.joining.proofs.lines.put_line_block.Statement.{statement}
-use Rattle.joining.proofs.lines.put_line_block.Tie as tie
+use Rattle.joined_writer.proofs.lines.put_line_block.Statement.{statement}
+use Rattle.joined_writer.proofs.lines.put_line_block.Tie as tie
 
 -- record j of line block i
 abbrev piece : Form → Trail → ℕ → ℕ → List ℕ
