@@ -26,8 +26,8 @@
 //! `TABLEGULL_LIB` names, or else in `../target/staticlib`.
 //!
 //! [`mod@reference`] has the same calls in plain Rust, written from documents 01
-//! and 02 alone and independently of the archive; the tests hold the two against
-//! each other. [`builder`] makes sheets.
+//! and 02, all but joining from these alone, and sharing no code with the archive;
+//! the tests hold the two against each other. [`builder`] makes sheets.
 //!
 //! Programs, all with `cargo run --release --bin NAME`:
 //!

@@ -1,4 +1,5 @@
-//! The trail checker in plain Rust, written from documents 01 and 02 alone.
+//! The trail checker in plain Rust, written from documents 01 and 02; all but
+//! joining from these alone.
 //!
 //! The calls have the signatures and the order of refusals of the archive's
 //! calls at the root of this crate. They share no code with the archive, so
