@@ -86,13 +86,14 @@ extern "C" {
 #endif
 
 /*
- * The version of this header, and of the Rust package beside it.  It is raised
- * when this header or what a call answers changes, as with another layout of
- * struct tablegull_answer, with kinds of lines that were refused before, with
- * another rule for the totals, or with a new call.  The archive does not tell
- * its version: take header and archive from the same sources.
+ * The version of this header, and of the Rust package beside it.  Its second
+ * number is raised when what this header declares or what a call answers
+ * changes, as with another layout of struct tablegull_answer, with kinds of
+ * lines that were refused before, with another rule for the totals, or with a
+ * new call; its third with a change that leaves both as they were.  The archive
+ * does not tell its version: take header and archive from the same sources.
  */
-#define TABLEGULL_VERSION "0.5.0"
+#define TABLEGULL_VERSION "0.5.1"
 
 /* Lengths that are always enough. */
 #define TABLEGULL_MAX_SHEET 4608       /* bytes of a sheet                     */

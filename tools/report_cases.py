@@ -171,8 +171,6 @@ def example_1():
 LEA_CONSTANTS = (0xC3EFE9DB, 0x44626B02, 0x79E27C8A, 0x78DF30EC)
 # Table 15's rows whose key schedule costs: round, and the weight in bits that 000 prints for it.
 TABLE_15 = {0: 0.408, 1: 0.462, 2: 0.695, 6: 1.0}
-# Two of our own, (a, u, v), with 27 and 22 states 000 in a row.
-LONG_QUIET = ((0x9E3779B9, 0x40000004, 0x40000004), (0x6ED9EBA1, 0x20000010, 0xE0000070))
 
 
 def table_15():
@@ -184,9 +182,34 @@ def table_15():
         assert i != 0 or fitting == 3238093392
 
 
-def long_quiet():
-    for a, u, v in LONG_QUIET:
-        constant_added("long quiet stretch", 32, a, u, v, "08x")
+# The logarithm's four bits
+
+def four_bits():
+    """At position 6 a chain of 6 states 000 ends, with p = 32 + 2 F: after its highest one, at place 5, the four bits are F."""
+    for f in range(16):
+        assert constant_added(f"the four bits {f}", 7, 48 + f, 32, 32) == (3, 16 - f, 1, 64 + 4 * f)
+
+
+# Document 02's thirty-two bits for T and p (W-204)
+
+# (a, u), at width 32 and with the stated difference u: N, weight in sixteenths, chains. At position 31 a chain of 31 states 000
+# ends, or of 29, or of 28, and its T or p is at an end of what it can be.
+LONG_CHAINS = {(0, 0x40000000): (2**32, 0, 1), (0x3FFFFFFF, 0x40000000): (4, 480, 1),
+               (0x7FFFFFFF, 0x40000000): (4294967292, 1, 1), (0x3FFFFFFE, 0x40000001): (8, 464, 2),
+               (0x40000002, 0x40000001): (8, 464, 2), (0x7FFFFFFF, 0x40000002): (2**31, 16, 2)}
+# Those that are held against a count of all words: p is 2^31; T, which is p, is 2^31 - 2.
+LARGEST = {"p": (0, 0x40000000), "T": (0x7FFFFFFF, 0x40000000)}
+
+
+def long_chains():
+    """All six as the lines of one sheet, and two against a count of all words."""
+    for number, (a, u) in LARGEST.items():
+        constant_added(f"largest {number}", 32, a, u, u, "08x")
+    inputs = [0x40000000, 0x40000001, 0x40000002]
+    lines = [plus(a, u, inputs.index(u)) for a, u in LONG_CHAINS]
+    reports = [line_report(Sheet(32, inputs, lines), k) for k in range(len(lines))]
+    assert reports == [(3, weight, chains, fitting) for fitting, weight, chains in LONG_CHAINS.values()]
+    add_totals("long chains", inputs, lines, (0, 0 + 480 + 1 + 464 + 464 + 16, 9), 32)
 
 
 # Whole sheets
@@ -353,7 +376,7 @@ def refused_sheets():
 
 def texts():
     """The lines of all cases, and of their answers."""
-    for group in (all_differentials, starred, misreadings, subtractions, shifts, example_1, table_15, long_quiet, whole_sheets,
-                  copies, impossible_copies, apart_by_one_field, refused_sheets):
+    for group in (all_differentials, starred, misreadings, subtractions, shifts, example_1, table_15, four_bits, long_chains,
+                  whole_sheets, copies, impossible_copies, apart_by_one_field, refused_sheets):
         group()
     return cases, answers

@@ -1,5 +1,6 @@
 //! The examples, cases and bounds that document 01 prints, and cases of what
-//! document 02 adds: kinds of lines, and totals with repeated lines.
+//! document 02 adds: kinds of lines, totals with repeated lines, and long
+//! chains.
 
 mod common;
 
@@ -166,11 +167,16 @@ fn a_borrow_replaces_the_carry() {
     assert_eq!(clauses(&sheet), expected);
 }
 
-/// The report of a line that adds a constant, at n = 4.
-fn kind_6(a: u32, u: u32, v: u32) -> Vec<Report> {
-    let mut sheet = SheetBuilder::new(4, &[u]);
+/// The report of a line that adds a constant.
+fn constant_added(width: u8, a: u32, u: u32, v: u32) -> Vec<Report> {
+    let mut sheet = SheetBuilder::new(width, &[u]);
     sheet.line(Line::add_constant(0, a, v));
     reports(&sheet)
+}
+
+/// The same at n = 4.
+fn kind_6(a: u32, u: u32, v: u32) -> Vec<Report> {
+    constant_added(4, a, u, v)
 }
 
 /// The report of a line that adds two words, at n = 4.
@@ -214,6 +220,17 @@ fn cases_of_kind_6() {
     assert_eq!(kind_6(5, 8, 8), [counted(16, 0, 0)]);
     assert_eq!(kind_6(0, 0, 0), [counted(16, 0, 0)]);
     assert_eq!(kind_6(7, 0, 1), [IMPOSSIBLE]);
+}
+
+#[test]
+fn long_chains() {
+    let same = |a, u| constant_added(32, a, u, u);
+    assert_eq!(same(0, 0x4000_0000), [counted(1 << 32, 0, 1)]);
+    assert_eq!(same(0x3fff_ffff, 0x4000_0000), [counted(4, 480, 1)]);
+    assert_eq!(same(0x7fff_ffff, 0x4000_0000), [counted(4294967292, 1, 1)]);
+    assert_eq!(same(0x3fff_fffe, 0x4000_0001), [counted(8, 464, 2)]);
+    assert_eq!(same(0x4000_0002, 0x4000_0001), [counted(8, 464, 2)]);
+    assert_eq!(same(0x7fff_ffff, 0x4000_0002), [counted(1 << 31, 16, 2)]);
 }
 
 #[test]

@@ -121,6 +121,11 @@ pub record Remaining (n a u v ends cost rest : ℕ) : Type 0 where
   pub rest-is : rest ≡ ends % 2 ^ bound
   pub cost-is : cost + total bound (chainCost a u v) ≡ total n (chainCost a u v)
 
+-- so that it is a word of any w bits that are n or more
+pub remaining-lt : {n a u v ends cost rest : ℕ} → Remaining n a u v ends cost rest → (w : ℕ) → n ≤ w → rest < 2 ^ w
+remaining-lt {ends = ends} k w l =
+    omega (arith, k .rest-is, mod-lt ends (pow-pos (k .bound)), pow-mono {i = k .bound} {j = w} (omega (arith, k .bound-le)))
+
 module _ (n a u v ends : ℕ) (h : ChainEnds n u v ends) where
   pub ends-count : ones ends ≡ chains n u v
   unfolding chains

@@ -7,7 +7,7 @@ use differential::WholeBits;
 use units::in_sixteenths;
 
 // A = 16M + F: in sixteenths F adds itself.
-pub(crate) fn logarithm(p: u64) -> Sixteenths
+pub(crate) fn logarithm(p: u32) -> Sixteenths
     requires { ⌜ 0 < p ⌝ }
     ensures { λ r. ⌜ r .0 ≡ Logarithm·logarithm p ⌝ }
 {
@@ -17,21 +17,21 @@ pub(crate) fn logarithm(p: u64) -> Sixteenths
 }
 
 // M, the place of the highest one.
-pub fn highest_one(p: u64) -> u32
+pub fn highest_one(p: u32) -> u32
     requires { ⌜ 0 < p ⌝ }
-    ensures { λ r. ⌜ (r ≡ highestOne p) × (r < 64) ⌝ }
+    ensures { λ r. ⌜ (r ≡ highestOne p) × (r < 32) ⌝ }
 {
-    63 - u64::leading_zeros(p)
+    31 - u32::leading_zeros(p)
 }
 
 // F, the four bits after the highest one, filled with zeros.
-fn next_four(p: u64, m: u32) -> u32
-    requires { ⌜ (0 < p) × (m ≡ highestOne p) × (m < 64) ⌝ }
+fn next_four(p: u32, m: u32) -> u32
+    requires { ⌜ (0 < p) × (m ≡ highestOne p) × (m < 32) ⌝ }
     ensures { λ r. ⌜ (r ≡ nextFour p) × (r < 16) ⌝ }
 {
     if 4 <= m {
-        ((p >> (m - 4)) % 16) as u32
+        (p >> (m - 4)) % 16
     } else {
-        ((p << (4 - m)) % 16) as u32
+        (p << (4 - m)) % 16
     }
 }

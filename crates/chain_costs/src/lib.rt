@@ -41,11 +41,11 @@ fn chain_length(u: u64, v: u64, i: u32) -> u32
 }
 
 // p: T if a[i-1] XOR u[i] XOR v[i] is 1, else 2^K - T.
-fn chain_number(a: u64, u: u64, v: u64, k: u32, i: u32) -> u64
+fn chain_number(a: u64, u: u64, v: u64, k: u32, i: u32) -> u32
     requires { ⌜ (1 ≤ k) × (k ≤ i) × (i < 32) × (a < 2 ^ 32) ⌝ }
     ensures { λ r. ⌜ r ≡ chainP a u v k i ⌝ }
 {
-    let t = chain_t(a, k, i);
+    let t = chain_t(a as u32, k, i);
     if bit((a << 1) ^ u ^ v, i) {
         t
     } else {
@@ -53,11 +53,12 @@ fn chain_number(a: u64, u: u64, v: u64, k: u32, i: u32) -> u64
     }
 }
 
-// T: the K-bit number a[i-2]..a[i-K-1], plus a[i-K-2]; bit j of a shifted up by two is a[j-2].
-fn chain_t(a: u64, k: u32, i: u32) -> u64
-    requires { ⌜ (1 ≤ k) × (k ≤ i) × (i < 32) × (a < 2 ^ 32) ⌝ }
+// T: the K-bit number a[i-2]..a[i-K-1], plus a[i-K-2]. Bit j of a shifted up by two is a[j-2]; the shift loses a[31] and a[30],
+// and T begins at a[29] at most.
+fn chain_t(a: u32, k: u32, i: u32) -> u32
+    requires { ⌜ (1 ≤ k) × (k ≤ i) × (i < 32) ⌝ }
     ensures { λ r. ⌜ (r ≡ chainT a k i) × (r ≤ 2 ^ k) ⌝ }
 {
     let shifted = a << 2;
-    ((shifted >> (i + 1 - k)) & mask(k)) + (bit(shifted, i - k) as u64)
+    ((shifted >> (i + 1 - k)) & ((1 << k) - 1)) + (shifted >> (i - k)) % 2
 }

@@ -55,7 +55,7 @@ fn all_chains(n: u32, a: u64, u: u64, v: u64) -> Chains
     let mut cost = 0;
     let mut rest = ends;
     while rest != 0 {
-        let i = highest_one(rest);
+        let i = highest_one(rest as u32);
         let next = chain_cost(a, u, v, i);
         cost += next.0;
         rest &= mask(i);

@@ -1,10 +1,11 @@
 -- Runs of states 000, and the numbers K, T and p of the chains.
 use mathlib.Core.Path.{_≡_, refl, ap, ap₂, _∙_}
 use mathlib.Core.Bool.{Bool, true, false, _&&_, xor, cond}
-use Prim.Native.Nat.{ℕ, zero, suc, _+_, _*_, _-_, _^_, _≤_}
+use Prim.Native.Nat.{ℕ, zero, suc, _+_, _*_, _-_, _^_, _≤_, _<_}
 use native.Mathlib.Nat.{zero-add}
 use native.Mathlib.Omega.{arith}
 use lib.Dec.{ltb}
+use lib.Pow.{pow-mono}
 use borrow.Author.Tests.{lt-ltb}
 use Rattle.words.specs.Words.{value, bit, bitBelow, fromBits}
 use Rattle.words.specs.Below.{count, total}
@@ -55,6 +56,17 @@ pub chainP-le : (a u v k i : ℕ) → chainP a u v k i ≤ 2 ^ k
 chainP-le a u v k i =
     rw (chainP-part a u v k i)
     (part-le (xor (bitBelow 1 a i) (xor (bit u i) (bit v i))) (2 ^ k) (chainT a k i) (chainT-le a k i))
+
+-- In a type of w bits, for every K below w, neither T nor p passes 2 ^ (w - 1), so that the type holds both.
+module _ (w a k i : ℕ) (l : k < w) where
+  room : 2 ^ k ≤ 2 ^ (w - 1)
+  room = pow-mono (omega arith)
+
+  pub chainT-fits : chainT a k i ≤ 2 ^ (w - 1)
+  chainT-fits = omega (arith, chainT-le a k i, room)
+
+  pub chainP-fits : (u v : ℕ) → chainP a u v k i ≤ 2 ^ (w - 1)
+  chainP-fits u v = omega (arith, chainP-le a u v k i, room)
 
 -- ---- states, and runs of states 000
 

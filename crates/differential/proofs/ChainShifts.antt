@@ -5,11 +5,11 @@ use Prim.Native.Nat.{ℕ, _+_, _*_, _-_, _/_, _%_, _^_, _<_, _≤_}
 use native.Mathlib.Omega.{arith}
 use lib.Bits.{bitAnd, bitXor, and-mask}
 use lib.Count.{ones}
-use mir.Val.{boolByte}
 use Rattle.words.specs.Words.{value, bit, bitBelow}
 use Rattle.words.proofs.Below.{count-cong, count-le}
-use Rattle.words.proofs.Bits.{bit-shift, bit-shl, bit-xor, bitBelow-far, bitBelow-shift, bitBelow-xor}
-use Rattle.words.proofs.Bits.{cast-value, fromBits-cong, fromBits-mod, xor-assoc}
+use Rattle.words.proofs.Bits.{bit-mod, bit-shift, bit-shl, bit-xor, bitBelow-far, bitBelow-shift, bitBelow-xor}
+use Rattle.words.proofs.Bits.{fromBits-cong, fromBits-mod, value-bit, xor-assoc}
+use Rattle.words.proofs.Masks.{one-shl}
 use Rattle.words.proofs.Ones.{ones-count}
 use Rattle.differential.specs.Constant.{halvings, chainT}
 
@@ -26,30 +26,29 @@ pub halvings-le : (n u v : ℕ) → halvings n u v ≤ n
 unfolding halvings
 halvings-le n u v = count-le n (λ i. xor (bitBelow 1 u i) (bitBelow 1 v i))
 
--- ---- T: k bits of a shifted up by two places, and the bit below them
+-- ---- T: k bits of a shifted up by two places, and the bit below them, in w bits. For every position below w: T has none of the two
+-- bits that the shift loses.
 
-pub chainT-shift : (a k i : ℕ) → k ≤ i
-    → a * 4 / 2 ^ (i + 1 - k) % 2 ^ k + value (bit (a * 4) (i - k)) ≡ chainT a k i
+pub chainT-shift : (w a k i : ℕ) → k ≤ i → i < w
+    → a * 4 % 2 ^ w / 2 ^ (i + 1 - k) % 2 ^ k + value (bit (a * 4 % 2 ^ w) (i - k)) ≡ chainT a k i
 unfolding chainT
-chainT-shift a k i l =
+chainT-shift w a k i l h =
     sym
     (ap₂ (λ (x : ℕ) (t : Bool). x + value t)
-    (fromBits-cong k (λ j. bitBelow (k + 1 - j) a i) (bit (a * 4 / 2 ^ (i + 1 - k)))
-    (λ j h. far (k + 1 - j) (k - 1 - j) (i + 1 - k + j) (omega arith) (omega arith) ∙ sym (bit-shift (a * 4) (i + 1 - k) j))
-    ∙ fromBits-mod k (a * 4 / 2 ^ (i + 1 - k)))
+    (fromBits-cong k (λ j. bitBelow (k + 1 - j) a i) (bit (a * 4 % 2 ^ w / 2 ^ (i + 1 - k)))
+    (λ j m. far (k + 1 - j) (k - 1 - j) (i + 1 - k + j) (omega arith) (omega arith) ∙ sym (bit-shift (a * 4 % 2 ^ w) (i + 1 - k) j))
+    ∙ fromBits-mod k (a * 4 % 2 ^ w / 2 ^ (i + 1 - k)))
     (far (k + 2) k (i - k) (omega arith) (omega arith)))
   where
-    far : (m d j : ℕ) → m ≡ 2 + d → i ≡ d + j → bitBelow m a i ≡ bit (a * 4) j
-    far m d j e f = ap₂ (λ (x y : ℕ). bitBelow x a y) e f ∙ bitBelow-far 2 d a j
+    far : (m d j : ℕ) → m ≡ 2 + d → i ≡ d + j → bitBelow m a i ≡ bit (a * 4 % 2 ^ w) j
+    far m d j e f = ap₂ (λ (x y : ℕ). bitBelow x a y) e f ∙ bitBelow-far 2 d a j ∙ sym (bit-mod (a * 4) w j (omega arith))
 
--- with a mask of k ones, in 64 bits, of which the shift loses none
-pub chainT-masked : (a k i m : ℕ) (b : Bool) → a < 2 ^ 32 → k ≤ i → m ≡ 2 ^ k - 1 → b ≡ bit (a * 4 % 2 ^ 64) (i - k)
-    → bitAnd (a * 4 % 2 ^ 64 / 2 ^ (i + 1 - k)) m + boolByte b ≡ chainT a k i
-chainT-masked a k i m b h l e f =
-    rw (f, e, cast-value (bit (a * 4 % 2 ^ 64) (i - k)), kept, and-mask (a * 4 / 2 ^ (i + 1 - k)) k) (chainT-shift a k i l)
-  where
-    kept : a * 4 % 2 ^ 64 ≡ a * 4
-    kept = omega arith
+-- with a mask of k ones
+pub chainT-masked : (w a k i : ℕ) → k ≤ i → i < w
+    → bitAnd (a * 4 % 2 ^ w / 2 ^ (i + 1 - k)) (1 * 2 ^ k % 2 ^ w - 1) + a * 4 % 2 ^ w / 2 ^ (i - k) % 2 ≡ chainT a k i
+chainT-masked w a k i l h =
+    rw (one-shl w k (omega arith), and-mask (a * 4 % 2 ^ w / 2 ^ (i + 1 - k)) k, ← value-bit (a * 4 % 2 ^ w) (i - k))
+    (chainT-shift w a k i l h)
 
 -- ---- p: which of its two cases
 

@@ -12,6 +12,7 @@ pub mod CarryPairs
 pub mod CountSteps
 pub mod ChainLaws
 pub mod ChainShifts
+pub mod ChainExamples
 pub mod Transitions
 pub mod Powers
 pub mod Positions

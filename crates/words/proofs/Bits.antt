@@ -10,7 +10,6 @@ use lib.Arith.{digits-mod}
 use lib.Bits.{bitAnd, bitOr, bitXor, differ, and-step, and-shr, or-step, or-shr, xor-lt, xor-step, xor-shr}
 use lib.Dec.{eqb, ltb, leb·suc-suc}
 use borrow.Author.Tests.{lt-ltb, le-ltb, eq-eqb, ne-eqb}
-use mir.Val.{boolByte}
 use lib.Pow.{field, mod-mod-pow, mod-pow-add, pow-add, pow-pos, shr-lt, shr-shr, shl-shr}
 use Rattle.words.specs.Words.{value, bit, bitBelow, fromBits}
 use Rattle.words.proofs.TruthTables.{by-table}
@@ -26,11 +25,6 @@ value-inj false false e = refl
 value-inj true true e = refl
 value-inj false true e = absurd (omega arith)
 value-inj true false e = absurd (omega arith)
-
--- as the code casts it
-pub cast-value : (b : Bool) → boolByte b ≡ value b
-cast-value false = refl
-cast-value true = refl
 
 value-eqb : (x : ℕ) → x < 2 → value (eqb x 1) ≡ x
 value-eqb zero h = refl

@@ -16,8 +16,8 @@ chain-number-requires c κs = search needs
 logarithm-requires : tie.Need-logarithm-requires
 logarithm-requires c κs = rw (c .chain-number .ensures, c .before .before .chain-length .ensures .0) (c .before .before .before .pre .3)
 
-sub-t10 : tie.Need-sub-t10
-sub-t10 c = search chain-least depth 8
+sub-t9 : tie.Need-sub-t9
+sub-t9 c = search chain-least depth 8
 
 returns : tie.Need-returns
 returns c = search chain-costs depth 8
@@ -30,5 +30,5 @@ chain-cost-spec =
     in-sixteenths-requires
     chain-number-requires
     logarithm-requires
-    sub-t10
+    sub-t9
     returns)

@@ -3,7 +3,7 @@ use native.Mathlib.Omega.{arith}
 use lib.Pow.{pow-mono}
 use borrow.Author.Needs.{needs}
 use Rattle.differential.proofs.Weights.{costs-le}
-use Rattle.chain_costs.proofs.Ends.{Remaining, all-remaining, none-remaining, ends-count, ending}
+use Rattle.chain_costs.proofs.Ends.{Remaining, all-remaining, none-remaining, remaining-lt, ends-count, ending}
 use Rattle.chains.proofs.all_chains.Statement.{statement}
 use Rattle.chains.proofs.all_chains.Tie as tie
 
@@ -18,6 +18,9 @@ chain-ends-requires c κs = search needs
 
 loop-holds : tie.Need-loop-holds Inv-loop μ-loop
 loop-holds c = all-remaining _ _ _ _ _ (c .chain-ends .ensures)
+
+cast-highest-one : tie.Need-cast-highest-one Inv-loop μ-loop
+cast-highest-one c = record { fits = remaining-lt (c .before .loop .inv) 32 (omega arith) }
 
 highest-one-requires : tie.Need-highest-one-requires Inv-loop μ-loop
 highest-one-requires c κs = search needs
@@ -55,6 +58,7 @@ all-chains-spec =
     μ-loop
     chain-ends-requires
     loop-holds
+    cast-highest-one
     highest-one-requires
     chain-cost-requires
     add-cost

@@ -5,11 +5,11 @@ use Rattle.chain_costs.proofs.chain_logarithm.highest_one.Statement.{st
 use Rattle.chain_costs.proofs.chain_logarithm.highest_one.Tie as tie
 
 sub-result : tie.Need-sub-result
-sub-result c = omega (arith, leading-highestOne (c .args .p) (c .pre) 64 (omega arith))
+sub-result c = omega (arith, leading-highestOne (c .args .p) (c .pre) 32 (omega arith))
 
 returns : tie.Need-returns
 returns c =
-    let place = leading-highestOne (c .args .p) (c .pre) 64 (omega arith) in
+    let place = leading-highestOne (c .args .p) (c .pre) 32 (omega arith) in
     (omega arith, omega arith)
 
 pub highest-one-spec : {M : Type 1} → statement M

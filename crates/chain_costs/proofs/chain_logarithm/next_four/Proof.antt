@@ -9,26 +9,14 @@ use Rattle.differential.proofs.Logarithms.{nextFour-down, nextFour-up}
 use Rattle.chain_costs.proofs.chain_logarithm.next_four.Statement.{statement}
 use Rattle.chain_costs.proofs.chain_logarithm.next_four.Tie as tie
 
-cast-result : tie.Need-cast-result
-cast-result c = search needs
-
 shr-result : tie.Need-shr-result
 shr-result c = search needs
-
-cast-result-2 : tie.Need-cast-result-2
-cast-result-2 c = search needs
 
 sub-result : tie.Need-sub-result
 sub-result c = search needs
 
-cast-result-3 : tie.Need-cast-result-3
-cast-result-3 c = search needs
-
 shl-result : tie.Need-shl-result
 shl-result c = search needs
-
-cast-result-4 : tie.Need-cast-result-4
-cast-result-4 c = search needs
 
 returns : tie.Need-returns
 returns c =
@@ -40,18 +28,7 @@ returns-2 : tie.Need-returns-2
 returns-2 c =
     let start = c .before in
     let p = start .args .p in
-    (rw (start .pre .1, mod-mod-pow (p * 2 ^ (4 - highestOne p)) 60 4) (sym (nextFour-up p (omega arith))), search needs)
+    (rw (start .pre .1, mod-mod-pow (p * 2 ^ (4 - highestOne p)) 28 4) (sym (nextFour-up p (omega arith))), search needs)
 
 pub next-four-spec : {M : Type 1} → statement M
-next-four-spec =
-    tie.close
-    (tie.spec
-    cast-result
-    shr-result
-    cast-result-2
-    sub-result
-    cast-result-3
-    shl-result
-    cast-result-4
-    returns
-    returns-2)
+next-four-spec = tie.close (tie.spec shr-result sub-result shl-result returns returns-2)
