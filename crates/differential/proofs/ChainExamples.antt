@@ -1,12 +1,12 @@
--- Chain numbers, their logarithms, and what the bounds on N leave a chain, by computation.
+-- Chains by computation: their numbers, which there are, their logarithms, and what the bounds on N leave each.
 use mathlib.Core.Path.{_≡_, refl}
 use mathlib.Core.Bool.{Bool, true, xor}
 use mathlib.Core.List.{List, [], _∷_, map}
 use Prim.Native.Nat.{ℕ, _+_, _-_, _*_, _^_}
 use native.Mathlib.Omega.{arith}
 use Rattle.words.specs.Words.{bit, bitBelow, fromBits}
-use Rattle.words.specs.Below.{tabulate}
-use Rattle.differential.specs.Constant.{quiet, isChain, chainT, chainP}
+use Rattle.words.specs.Below.{count, tabulate}
+use Rattle.differential.specs.Constant.{quiet, isChain, chains, chainT, chainP}
 use Rattle.differential.specs.Logarithm.{highestOneBelow, highestOne, nextFour, logarithm}
 use Rattle.differential.specs.Demand2.{CountedRight}
 
@@ -46,6 +46,12 @@ cases =
 pub long-chains : map top cases ≡ map (λ (c : Case). c .numbers) cases
 unfolding bit bitBelow fromBits xor quiet isChain chainT chainP
 long-chains = refl
+
+-- ---- of two states 11* in a row the upper one ends no chain
+
+pub one-chain : chains 4 3 3 ≡ 1
+unfolding count bit bitBelow xor quiet isChain chains
+one-chain = refl
 
 -- ---- A = 16 M + F, where the highest one has place 4, at each of the sixteen F
 
