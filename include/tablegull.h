@@ -25,12 +25,12 @@
  *
  * Refusals
  *
- * Questions 1 to 16 are asked by every call (tablegull_seal leaves out 2) in
- * the order of their numbers, 9 to 15 together for one line after the other.
- * Questions 17 to 22 are asked after them, by the calls that take what they are
- * about, in the order that the call says below.  The first question whose
- * answer is no is the refusal.  Blocks and lines are numbered from 0, block 0
- * being the header.
+ * Questions 1 to 16 are asked by every call in the order of their numbers, 9 to
+ * 15 together for one line after the other.  tablegull_seal leaves out 2, and
+ * asks 23 of each line directly after 11; no other call asks 23.  Questions 17
+ * to 22 are asked after them, by the calls that take what they are about, in the
+ * order that the call says below.  The first question whose answer is no is the
+ * refusal.  Blocks and lines are numbered from 0, block 0 being the header.
  *
  *   number  place  the question whose answer is no
  *   ------  -----  ------------------------------------------------------------
@@ -59,6 +59,8 @@
  *                  each a word of the first, none twice, and each with its
  *                  input's difference?
  *       22      0  Have the two sheets at most 248 lines together?
+ *       23   line  In sealing, for kind 1, do the operands name different
+ *                  words?
  *
  *
  * Outside the proof
@@ -88,12 +90,13 @@ extern "C" {
 /*
  * The version of this header, and of the Rust package beside it.  Its second
  * number is raised when what this header declares or what a call answers
- * changes, as with another layout of struct tablegull_answer, with kinds of
- * lines that were refused before, with another rule for the totals, or with a
- * new call; its third with a change that leaves both as they were.  The archive
- * does not tell its version: take header and archive from the same sources.
+ * changes, as with another layout of struct tablegull_answer, with lines that
+ * are accepted or refused and were not before, with another rule for the totals,
+ * or with a new call; its third with a change that leaves both as they were.
+ * The archive does not tell its version: take header and archive from the same
+ * sources.
  */
-#define TABLEGULL_VERSION "0.5.1"
+#define TABLEGULL_VERSION "0.6.0"
 
 /* Lengths that are always enough. */
 #define TABLEGULL_MAX_SHEET 4608       /* bytes of a sheet                     */
@@ -116,9 +119,13 @@ struct tablegull_answer {
 struct tablegull_answer tablegull_read(const uint8_t *sheet, size_t len);
 
 /*
- * Seals a sheet: asks questions 1 and 3 to 16, then writes every block's check
- * into its bytes 508 to 511.  No other byte changes, and tablegull_read
- * accepts the sheet afterwards.
+ * Seals a sheet: asks questions 1 and 3 to 16, and 23 of each line, then writes
+ * every block's check into its bytes 508 to 511.  No other byte changes, and
+ * tablegull_read accepts the sheet afterwards.
+ * A word XORed with itself is nearly always a typing slip in the operand; 23 is
+ * about it.  A sheet that tablegull_read accepts may have one, such as a sheet
+ * that was sealed before version 0.6.0.  All other calls take it like any other
+ * sheet; this one refuses it.
  * count: the number of blocks, the header among them.
  */
 struct tablegull_answer tablegull_seal(uint8_t *sheet, size_t len);
@@ -204,6 +211,9 @@ struct tablegull_answer tablegull_line_clauses(const uint8_t *sheet, size_t len,
  * second is word names[j] of the first; the word of the second's line k becomes
  * word m + L + k, with m and L of the first.  tablegull_read accepts the joined
  * sheet.
+ *
+ * A line of either sheet that XORs a word with itself is kept; tablegull_seal
+ * refuses the joined sheet then, by 23.
  *
  * A starting value follows the joined trail exactly if it follows the first and
  * its named words, taken as inputs, follow the second.  The report of a line is

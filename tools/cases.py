@@ -16,7 +16,7 @@ import sheet_cases
 
 CRATE = Path(__file__).resolve().parent.parent / "crates" / "cases"
 # The program's room for its cases.
-MOST_CASES = 10 * 2**15
+MOST_CASES = 11 * 2**15
 SUBJECTS = {"sheets": sheet_cases, "reports": report_cases, "clauses": clause_cases, "joins": join_cases, "texts": program_cases}
 
 if __name__ == "__main__":

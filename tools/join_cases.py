@@ -10,7 +10,8 @@ the name's first word, more is told of the joined sheet:
 - `bytes`: its bytes that are not 0;
 - `following`: of a small one, how many starting values follow, and a checksum of what two runs answer from each of them, in the
   order of the number that the words spell, word 0 lowest;
-- `reports`: the reports of its lines, and of the line number after the last.
+- `reports`: the reports of its lines, and of the line number after the last;
+- `sealing`: what sealing it afresh answers, and the bytes that this changes.
 """
 from pathlib import Path
 from random import Random
@@ -19,7 +20,7 @@ from clause_cases import altered, some_line, some_words, starts_of, with_run
 from oracle.trail import (AMOUNT_KINDS, BLOCK, CARRY_KINDS, CONSTANT_KINDS, KINDS, MAX_LINES, PER_BLOCK, TWO_WORD_KINDS, Line,
                           Refused, Sheet, join, line_report, read, report, run, seal_bytes, two_runs)
 from report_cases import shown, with_number
-from sheet_cases import listed, plain, put, put_field
+from sheet_cases import listed, outcome, plain, put, put_field
 
 EXAMPLES = Path(__file__).resolve().parent.parent / "examples"
 # What stands in a buffer before, and the program's room for the longest.
@@ -135,6 +136,34 @@ def operands():
     add_bytes("of every kind on inputs and on lines' words", first, KINDS_SECOND.pack(), KINDS_NAMES)
     alike = to_join(KINDS_FIRST, KINDS_NAMES, [Line(1, first=2, second=2), Line(1, first=3, second=3)])
     add_bytes("of an input and a line's word, each XOR itself", first, alike.pack(), KINDS_NAMES)
+
+
+def add_sealing(name, first, second, names, answer):
+    """A case whose joined sheet is sealed afresh."""
+    joined = join(first, second, names, MOST_BYTES)
+    assert outcome(joined, False).startswith(" accepted ") and outcome(joined, True).startswith(f" {answer}"), name
+    # Joining has written the checks.
+    assert seal_bytes(joined) == joined, name
+    add_joined(f"sealing {name}", first, second, names, f"\n  seal{outcome(joined, True)}")
+
+
+def self_xors():
+    """A word XORed with itself, which joining keeps and sealing refuses."""
+    first, second = FIRST.pack(), SECOND.pack()
+    odd_first = Sheet(8, FIRST.inputs, FIRST.lines + [Line(1, first=1, second=1)]).pack()
+    odd_input, odd_line = (to_join(FIRST, NAMES, SECOND.lines + [Line(1, first=word, second=word, difference=3)]).pack()
+                           for word in (1, 4))
+    both_inputs = to_join(FIRST, NAMES, [Line(1, second=1, difference=7)]).pack()
+    for name, one, two, answer in (
+            ("with no word XOR itself", first, second, "accepted"),
+            ("with the XOR of both inputs of the second sheet", first, both_inputs, "accepted"),
+            ("with a word XOR itself in the first sheet", odd_first, second, "refused 23 2"),
+            ("with an input XOR itself in the second sheet", first, odd_input, "refused 23 5"),
+            ("with a line's word XOR itself in the second sheet", first, odd_line, "refused 23 5"),
+            ("with a word XOR itself in both sheets", odd_first, odd_line, "refused 23 2")):
+        add_sealing(name, one, two, NAMES, answer)
+    last = Sheet(2, [0], [Line(2)] * (MAX_LINES // 2 - 1) + [Line(1, first=5, second=5)]).pack()
+    add_sealing("with a word XOR itself in line 247", chain(1, MAX_LINES // 2), last, [1], "refused 23 247")
 
 
 def named_words():
@@ -418,7 +447,7 @@ def both_reports():
 
 def texts():
     """The lines of all cases, and of their answers."""
-    for group in (operands, named_words, same_bytes, input_counts, full_words, line_counts, buffers, refused_sheets, widths, lists,
-                  differences, too_many_lines, two_faults, random_pairs, none_together, xtea, both_reports):
+    for group in (operands, self_xors, named_words, same_bytes, input_counts, full_words, line_counts, buffers, refused_sheets,
+                  widths, lists, differences, too_many_lines, two_faults, random_pairs, none_together, xtea, both_reports):
         group()
     return cases, answers

@@ -149,6 +149,11 @@ def equal_lines():
     return Sheet(4, [4], [Line(6, constant=3, difference=12)] * MAX_LINES).pack()
 
 
+def self_xors():
+    """Words XORed with themselves, which sealing alone refuses: one certain, one impossible."""
+    return Sheet(2, [1], [Line(1), Line(6, constant=1, difference=3), Line(1, first=2, second=2, difference=1)]).pack()
+
+
 def add_whole(name, data, total, header):
     """Cases of a sheet that is accepted, with its totals and both counts of its clauses."""
     add(name, data, ("report", "header"))
@@ -158,6 +163,7 @@ def add_whole(name, data, total, header):
 def accepted_sheets():
     add("example", EXAMPLE, ("report", "clauses"))
     add("all_kinds", trail(8, 2, 12), ("report", "clauses"))
+    add("self_xors", self_xors(), ("report", "clauses"))
     add_whole("largest", largest(), "0 123008 0", "23568 246016")
     add_whole("far_copies", far_copies(), f"0 {246 * 496} 0", "23568 246016")
     # Copies have carries and clauses as any line has: here 6 and 48.

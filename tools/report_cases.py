@@ -238,14 +238,14 @@ def sheet_answer(data):
 
 def add_sheet(name, data):
     """A sheet that the program seals; its checks are left 0."""
-    sheet = read(data)
+    sheet = read(data, sealing=True)
     cases.append(case_line(f"sheet {name}", sheet.pack(sealed=False)))
     answers.append(f"sheet {name}:{sheet_answer(data)}\n")
 
 
-def add_unsealed(name, data, refusal):
-    """A sheet that the program leaves as it is, and that reading has to refuse."""
-    assert sheet_answer(data).startswith(f"\n  line 0 refused {refusal}\n"), name
+def add_unsealed(name, data, answer):
+    """A sheet that the program leaves as it is. What is told of line 0 is stated, so that the case is what its name says."""
+    assert sheet_answer(data).startswith(f"\n  line 0 {answer}\n"), name
     cases.append(case_line(f"unsealed {name}", data))
     answers.append(f"unsealed {name}:{sheet_answer(data)}\n")
 
@@ -368,15 +368,23 @@ def apart_by_one_field():
 
 def refused_sheets():
     good = trail(8, 2, 12)
-    add_unsealed("with a wrong check in its last block", put(good, 2 * BLOCK - 1, good[-1] ^ 1), "2 1")
-    add_unsealed("with width 33", seal_bytes(put(good, 4, 33)), "4 0")
-    add_unsealed("with kind 10 in line 3", seal_bytes(put_field(good, 3, "kind", 10)), "9 3")
-    add_unsealed("of one block", good[:BLOCK], "1 0")
+    add_unsealed("with a wrong check in its last block", put(good, 2 * BLOCK - 1, good[-1] ^ 1), "refused 2 1")
+    add_unsealed("with width 33", seal_bytes(put(good, 4, 33)), "refused 4 0")
+    add_unsealed("with kind 10 in line 3", seal_bytes(put_field(good, 3, "kind", 10)), "refused 9 3")
+    add_unsealed("of one block", good[:BLOCK], "refused 1 0")
+
+
+def self_xors():
+    """Words XORed with themselves, which sealing refuses (W-205), in a sheet with right checks: certain to be 0."""
+    sheet = Sheet(8, [2, 3], [Line(1), Line(1, difference=1), Line(1, first=3, second=3), Line(6, constant=2, difference=6),
+                              Line(6, constant=2, difference=6), Line(1), Line(1, second=1, difference=1)])
+    assert [line_report(sheet, k)[0] for k in range(len(sheet.lines))] == [1, 0, 1, 3, 3, 1, 1]
+    add_unsealed("with right checks, of words XOR themselves", sheet.pack(), "certain 0 0 0")
 
 
 def texts():
     """The lines of all cases, and of their answers."""
     for group in (all_differentials, starred, misreadings, subtractions, shifts, example_1, table_15, four_bits, long_chains,
-                  whole_sheets, copies, impossible_copies, apart_by_one_field, refused_sheets):
+                  whole_sheets, copies, impossible_copies, apart_by_one_field, refused_sheets, self_xors):
         group()
     return cases, answers

@@ -27,16 +27,18 @@ LINE, WORD = 3, 5
 cases = {}
 
 
-def add(name, data, question=0):
-    """A case as it is. Reading has to refuse it by this question (0: accept it), so that it is what its name says."""
+def add(name, data, question=0, sealing=None):
+    """A case as it is. Reading has to refuse it by this question (0: accept it), so that it is what its name says; sealing too,
+    where its question is given."""
     assert name not in cases and ":" not in name and len(data) <= MOST_BYTES, name
-    assert outcome(data, False).startswith(f" refused {question} " if question else " accepted "), name
+    for seals, number in ((False, question), (True, sealing)):
+        assert number is None or outcome(data, seals).startswith(f" refused {number} " if number else " accepted "), name
     cases[name] = bytes(data)
 
 
-def add_sealed(name, data, question=0):
+def add_sealed(name, data, question=0, sealing=None):
     """A case with right checks."""
-    add(name, seal_bytes(data), question)
+    add(name, seal_bytes(data), question, sealing)
 
 
 # The two files
@@ -207,7 +209,7 @@ def input_differences():
         add_sealed(f"{m} inputs, a difference of 2^31 at the last place", sheet(8, m, 7, 2**31), 7)
 
 
-# Questions 9 to 15
+# Questions 9 to 15, and 23
 
 def kinds():
     for kind in KINDS:
@@ -230,9 +232,52 @@ def operands():
     for word in (254, 255, 256):
         data = put_field(plain(m=8, count=248), 247, "first operand", word)
         add_sealed(f"operand {word} in line 247 after 8 inputs", data, 0 if word < 255 else 10)
-    for kind, question in ((1, 0), (5, 11), (9, 11)):
+    for kind, question, sealing in ((1, 0, 23), (5, 11, 11), (9, 11, 11)):
         data = put_field(with_lines(8, {LINE: kind}), LINE, "second operand", 1)
-        add_sealed(f"kind {kind} on one word twice", data, question)
+        add_sealed(f"kind {kind} on one word twice", data, question, sealing)
+
+
+def self_xors():
+    """A word XORed with itself: question 23, which sealing alone asks, after 11."""
+    def itself(data, line, word):
+        data = put_field(put_field(data, line, "kind", 1), line, "first operand", word)
+        return put_field(data, line, "second operand", word)
+
+    small, full = plain(count=5), plain(m=8, count=248)
+    for line, word in ((0, 0), (0, 1), (LINE, 0), (LINE, WORD - 1)):
+        add_sealed(f"word {word} XOR itself in line {line}", itself(small, line, word), 0, 23)
+    for line, word in ((0, 7), (30, 37), (247, 0), (247, 254)):
+        add_sealed(f"word {word} XOR itself in line {line} of 248", itself(full, line, word), 0, 23)
+    for bit in (0, 3, 7):
+        other = 100 ^ 2**bit
+        data = put_field(itself(full, 247, 100), 247, "second operand", other)
+        add_sealed(f"word 100 XOR word {other} in line 247 of 248", data, 0, 0)
+    for word in (WORD, 256, 65535):
+        add_sealed(f"word {word} XOR itself in line {LINE}, where it is no earlier word", itself(small, LINE, word), 10, 10)
+    # Both operand fields are equal in these, too.
+    for kind in KINDS:
+        if kind not in TWO_WORD_KINDS:
+            add_sealed(f"kind {kind} of word 0", put_field(with_lines(8, {LINE: kind}), LINE, "first operand", 0), 0, 0)
+    # With another fault, in the same line and elsewhere.
+    data = itself(small, LINE, 1)
+    for name, other, question, sealing in (
+            ("zero field", put_field(data, LINE, "zero field", 1), 15, 23),
+            ("amount", put_field(data, LINE, "amount", 1), 15, 23),
+            ("constant", put_field(data, LINE, "constant", 2**31), 15, 23),
+            ("difference 2^8", put_field(data, LINE, "difference", 2**8), 14, 23),
+            ("difference 2^8 and zero field", put_field(put_field(data, LINE, "difference", 2**8), LINE, "zero field", 1), 14, 23),
+            ("kind 10 in the line before", put_field(data, LINE - 1, "kind", 10), 9, 9),
+            ("zero field in the line before", put_field(data, LINE - 1, "zero field", 1), 15, 15),
+            ("plus itself in the line before", put_field(itself(data, LINE - 1, 1), LINE - 1, "kind", 5), 11, 11),
+            ("kind 10 in the line after", put_field(data, LINE + 1, "kind", 10), 9, 23),
+            ("zero field in the line after", put_field(data, LINE + 1, "zero field", 1), 15, 23),
+            ("plus itself in the line after", put_field(itself(data, LINE + 1, 1), LINE + 1, "kind", 5), 11, 23),
+            ("header byte 507", put(data, 507, 1), 8, 8),
+            ("byte 507 of line block 1", put(data, BLOCK + 507, 1), 16, 23)):
+        add_sealed(f"word 1 XOR itself in line {LINE}, {name}", other, question, sealing)
+    add_sealed(f"word 1 XOR itself in lines {LINE - 1} and {LINE}", itself(data, LINE - 1, 1), 0, 23)
+    add(f"word 1 XOR itself in line {LINE}, unsealed", put_check(put_check(data, 0, 0), 1, 0), 2, 23)
+    add(f"word 1 XOR itself in line {LINE}, wrong check in the last block", off(seal_bytes(data), 1, 1), 2, 23)
 
 
 def limits():
@@ -351,7 +396,7 @@ def two_lines():
 
 def texts():
     """The lines of all cases, and of their answers."""
-    for group in (whole_sheets, lengths, checks, header, line_counts, input_differences, kinds, operands, limits,
+    for group in (whole_sheets, lengths, checks, header, line_counts, input_differences, kinds, operands, self_xors, limits,
                   unused_fields, rest, two_questions, two_questions_of_a_line, two_lines):
         group()
     return [case_line(*case) for case in cases.items()], [answer_line(*case) for case in cases.items()]

@@ -43,7 +43,7 @@ impl Line {
         difference: 0,
     };
 
-    /// Kind 1: the XOR of two words.
+    /// Kind 1: the XOR of two words. Sealing wants them different.
     pub fn xor(first: u16, second: u16, difference: u32) -> Line {
         Line {
             kind: 1,
@@ -208,7 +208,8 @@ impl SheetBuilder {
         bytes
     }
 
-    /// The sealed sheet, or the first question whose answer is no.
+    /// The sealed sheet, or the first question whose answer is no. Among the
+    /// questions is 23: a word XORed with itself is refused.
     ///
     /// The archive seals where it is there, else the reference.
     pub fn seal(&self) -> Result<Vec<u8>, Refusal> {

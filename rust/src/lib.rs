@@ -22,12 +22,16 @@
 //! the caller holds: they write from the start of the lent buffer and leave the
 //! rest, and on a refusal all of it.
 //!
+//! A word XORed with itself is refused by `seal` alone. Sheets that have been
+//! sealed with such a line can still be read and used.
+//!
 //! The calls are there when the build has found the archive: in the folder that
 //! `TABLEGULL_LIB` names, or else in `../target/staticlib`.
 //!
 //! [`mod@reference`] has the same calls in plain Rust, written from documents 01
-//! and 02, all but joining from these alone, and sharing no code with the archive;
-//! the tests hold the two against each other. [`builder`] makes sheets.
+//! and 02 (all but joining and question 23 from these alone), and sharing no code
+//! with the archive; the tests hold the two against each other. [`builder`] makes
+//! sheets.
 //!
 //! Programs, all with `cargo run --release --bin NAME`:
 //!
@@ -67,7 +71,7 @@ pub const MAX_LINE_CLAUSES: usize = 4944;
 /// The first question about a call's input whose answer is no.
 #[derive(Clone, Copy, Debug, PartialEq, Eq, Hash)]
 pub struct Refusal {
-    /// The question's number, 1 to 22.
+    /// The question's number, 1 to 23.
     pub number: u32,
     /// The block or line at which the answer is no; 0 where none is named.
     pub place: u64,
@@ -105,6 +109,7 @@ impl Refusal {
                  first, none twice, and each with its input's difference?"
             }
             22 => "Have the two sheets at most 248 lines together?",
+            23 => "In sealing, for kind 1, do the operands name different words?",
             _ => "no question has this number",
         }
     }
@@ -129,6 +134,10 @@ pub fn read(sheet: &[u8]) -> Result<usize, Refusal> {
 
 /// Seals a sheet: asks all questions but the one about checks, then writes the
 /// checks. Answers the number of blocks.
+///
+/// Sealing alone refuses a word XORed with itself, by number 23: nearly always
+/// that is a slip in an operand. A sheet that has been sealed with such a line
+/// still passes all other calls, and sealing it afresh leaves its bytes.
 #[cfg(has_archive)]
 pub fn seal(sheet: &mut [u8]) -> Result<usize, Refusal> {
     slices::seal(sheet)
@@ -207,7 +216,7 @@ pub fn line_clauses(sheet: &[u8], line: usize) -> Result<Vec<i32>, Refusal> {
 
 /// The joined sheet: the first's inputs and lines, then the second's lines with
 /// operands renumbered. `names` has for each input of the second the word of the
-/// first that it is.
+/// first that it is. Lines that XOR a word with itself are kept.
 ///
 /// A refusal by one of questions 1 to 16 does not tell which sheet it is about:
 /// it is the first if `read` refuses the first, else the second.

@@ -32,6 +32,10 @@ pub fn read(sheet: &[u8]) -> Result<usize, Refusal> {
 
 /// Seals a sheet: asks all questions but the one about checks, then writes the
 /// checks. Answers the number of blocks.
+///
+/// Sealing alone refuses a word XORed with itself, by number 23: nearly always
+/// that is a slip in an operand. A sheet that has been sealed with such a line
+/// still passes all other calls, and sealing it afresh leaves its bytes.
 pub fn seal(sheet: &mut [u8]) -> Result<usize, Refusal> {
     // SAFETY: pointer and length are one slice's, borrowed for writing.
     outcome(unsafe { ffi::tablegull_seal(sheet.as_mut_ptr(), sheet.len()) })
@@ -120,8 +124,8 @@ pub fn line_clauses(sheet: &[u8], line: usize, out: &mut [i32]) -> Result<usize,
 
 /// Writes the joined sheet: the first's inputs and lines, then the second's
 /// lines with operands renumbered. `names` has for each input of the second the
-/// word of the first that it is. Answers the number of bytes written, at most
-/// [`MAX_SHEET`](crate::MAX_SHEET).
+/// word of the first that it is. Lines that XOR a word with itself are kept.
+/// Answers the number of bytes written, at most [`MAX_SHEET`](crate::MAX_SHEET).
 pub fn join(first: &[u8], second: &[u8], names: &[u64], out: &mut [u8]) -> Result<usize, Refusal> {
     // SAFETY: each pointer and length are one slice's, and `out` is borrowed
     // for writing.

@@ -14,8 +14,10 @@ mod compared {
     use std::path::Path;
 
     use super::common::damage::damage_a_field;
+    use super::common::sealing::{random_sheet_to_seal, Met};
     use super::common::{
-        disturb, random_program, write_checks, Outcome, Program, Random, ARCHIVE, REFERENCE,
+        disturb, random_lines, random_program, random_shape, write_checks, Outcome, Program,
+        Random, ARCHIVE, REFERENCE,
     };
 
     /// Writes a sheet to a file if a comparison on it fails, to look into it.
@@ -252,26 +254,10 @@ mod compared {
         answer
     }
 
-    /// Mostly short programs, and those at the blocks' edges.
-    fn random_lines(random: &mut Random) -> usize {
-        match random.below(8) {
-            0 => random.pick(&[1, 30, 31, 32, 61, 62, 63, 93, 217, 218, 247, 248]),
-            1 => 1 + random.below(248),
-            _ => 1 + random.below(20),
-        }
-    }
-
-    fn random_shape(random: &mut Random) -> (Program, Vec<u64>) {
-        let width = 2 + random.below(31) as u32;
-        let inputs = 1 + random.below(8);
-        let lines = random_lines(random);
-        random_program(random, width, inputs, lines)
-    }
-
     #[test]
     fn accepted_sheets_at_all_widths() {
         let mut random = Random::new(100);
-        let (mut sheets, mut with_costly_repeats) = (0, 0);
+        let (mut sheets, mut with_costly_repeats, mut sealed) = (0, 0, 0);
         for width in (2..=32).cycle().take(31 * 300) {
             let (inputs, lines) = (1 + random.below(8), random_lines(&mut random));
             let (mut program, start) = random_program(&mut random, width, inputs, lines);
@@ -282,12 +268,16 @@ mod compared {
             let reports = REFERENCE.reports(&program.sheet());
             sheets += 1;
             with_costly_repeats += usize::from(program.has_costly_repeats(&reports));
+            sealed += usize::from(program.word_xored_with_itself().is_none());
         }
         // On many sheets repeats make the totals other than plain sums.
         assert!(
             3 * with_costly_repeats > sheets,
             "{with_costly_repeats} of {sheets}"
         );
+        // Most can be sealed, and some have a word XORed with itself.
+        assert!(2 * sealed > sheets, "{sealed} of {sheets}");
+        assert!(10 * (sheets - sealed) > sheets, "{sealed} of {sheets}");
     }
 
     #[test]
@@ -357,6 +347,18 @@ mod compared {
             by_number[2..=16].iter().all(|&times| times > 20),
             "{by_number:?}"
         );
+    }
+
+    #[test]
+    fn words_xored_with_themselves() {
+        let mut random = Random::new(107);
+        let mut met = Met::default();
+        for _ in 0..100_000 {
+            let bytes = random_sheet_to_seal(&mut random);
+            compare_any(&mut random, &bytes).ok();
+            met.count(&bytes);
+        }
+        met.assert_all();
     }
 
     #[test]

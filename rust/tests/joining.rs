@@ -3,19 +3,9 @@
 
 mod common;
 
-use common::{implementations, write_checks, Program, Report};
-use tablegull::builder::{Line, SheetBuilder};
+use common::{implementations, sheet_of, write_checks, Program, Report};
+use tablegull::builder::Line;
 use tablegull::Refusal;
-
-fn sheet_of(width: u8, inputs: &[u32], lines: &[Line]) -> Vec<u8> {
-    let mut sheet = SheetBuilder::new(width, inputs);
-    for line in lines {
-        sheet.line(*line);
-    }
-    let mut bytes = sheet.unsealed();
-    write_checks(&mut bytes);
-    bytes
-}
 
 /// A sheet at n = 8 whose words all differ by 1, one input and these lines.
 fn sheet_of_copies(lines: usize) -> Vec<u8> {

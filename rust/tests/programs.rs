@@ -69,6 +69,23 @@ fn report_of_copies() {
 }
 
 #[test]
+fn texts_of_a_word_xored_with_itself() {
+    let mut program = example();
+    program.steps[0] = Step {
+        kind: 1,
+        constant: 0,
+        difference: 0,
+        ..program.steps[0]
+    };
+    let sheet = program.sheet();
+    assert_eq!(report(&sheet), "0 certain 0 0 0\ntotal 0 0 0\n");
+    let expected = "p cnf 4 16\n1 1 -3 0\n1 -1 3 0\n-1 1 3 0\n-1 -1 -3 0\n2 2 -4 0\n2 -2 4 0\n\
+                    -2 2 4 0\n-2 -2 -4 0\n-1 -1 -3 0\n-1 1 3 0\n1 -1 3 0\n1 1 -3 0\n2 2 -4 0\n\
+                    2 -2 4 0\n-2 2 4 0\n-2 -2 -4 0\n";
+    assert_eq!(clauses(&sheet), expected);
+}
+
+#[test]
 fn refusals_are_printed() {
     let mut sheet = example().sheet();
     sheet[1023] ^= 1;

@@ -2,7 +2,7 @@
 
 mod common;
 
-use common::{implementations, write_checks};
+use common::{implementations, record, write_checks};
 use tablegull::builder::{Line, SheetBuilder};
 use tablegull::Refusal;
 
@@ -21,20 +21,26 @@ fn sheet() -> Vec<u8> {
         sheet.line(Line::subtract(1, 0, 3));
     }
     for _ in 0..6 {
-        sheet.line(Line::xor(0, 0, 0));
+        sheet.line(Line::xor(0, 1, 3));
     }
     let mut bytes = sheet.unsealed();
     write_checks(&mut bytes);
     bytes
 }
 
-/// Where a line's record starts.
-fn record(line: usize) -> usize {
-    512 * (1 + line / 31) + 16 * (line % 31)
-}
-
-/// A byte's place, the byte to put there, and the refusal that follows.
+/// A byte's place, the byte to put there, and the refusal that follows: in
+/// sealing, and unless it is 23 in reading.
 type Damage = (usize, u8, u32, u64);
+
+/// What reading a sheet with these damages, in the order of the questions, comes
+/// to.
+fn reading(damages: &[Damage]) -> Result<usize, Refusal> {
+    let asked = damages.iter().find(|(_, _, number, _)| *number != 23);
+    match asked {
+        Some(&(_, _, number, place)) => Err(Refusal { number, place }),
+        None => Ok(33),
+    }
+}
 
 /// In the order of the questions: of several of these in one sheet, the one
 /// that stands first here is the refusal.
@@ -55,6 +61,7 @@ fn damages() -> Vec<Damage> {
         (record(0), 0, 9, 0),
         (record(0) + 2, 3, 10, 0),
         (record(0) + 4, 3, 10, 0),
+        (record(0) + 4, 0, 23, 0),
         (record(0) + 14, 0x10, 14, 0),
         (record(0) + 1, 1, 15, 0),
         (record(0) + 7, 1, 15, 0),
@@ -100,9 +107,16 @@ fn damages() -> Vec<Damage> {
         (record(8) + 1, 1, 15, 8),
         (record(8) + 6, 1, 15, 8),
         (record(8) + 9, 1, 15, 8),
+        (record(9) + 4, 12, 10, 9),
+        (record(9) + 2, 1, 23, 9),
+        (record(9) + 14, 0x10, 14, 9),
+        (record(9) + 11, 1, 15, 9),
         (record(30), 0xff, 9, 30),
+        (record(31) + 4, 0, 23, 31),
+        (record(31) + 6, 1, 15, 31),
         (record(32), 10, 9, 32),
         (record(32) + 4, 35, 10, 32),
+        (record(32) + 4, 0, 23, 32),
         (512 + 496, 1, 16, 1),
         (512 + 507, 1, 16, 1),
         (record(33), 1, 16, 2),
@@ -116,7 +130,8 @@ fn damages() -> Vec<Damage> {
 fn each_question_has_its_number_and_place() {
     for calls in implementations() {
         assert_eq!((calls.read)(&sheet()), Ok(33));
-        for (at, byte, number, place) in damages() {
+        for damage in damages() {
+            let (at, byte, number, place) = damage;
             let mut bytes = sheet();
             assert_ne!(bytes[at], byte);
             bytes[at] = byte;
@@ -134,7 +149,14 @@ fn each_question_has_its_number_and_place() {
             assert_eq!(bytes, before, "{name}, byte {at}");
 
             write_checks(&mut bytes);
-            assert_eq!((calls.read)(&bytes), refused, "{name}, byte {at}");
+            let before = bytes.clone();
+            assert_eq!(
+                (calls.read)(&bytes),
+                reading(&[damage]),
+                "{name}, byte {at}"
+            );
+            assert_eq!((calls.seal)(&mut bytes), refused, "{name}, byte {at}");
+            assert_eq!(bytes, before, "{name}, byte {at}");
         }
     }
 }
@@ -145,13 +167,18 @@ fn of_two_refusals_the_first_is_given() {
     assert!(
         damages.is_sorted_by_key(|&(_, _, number, place)| match number {
             ..9 => (0, 0, number),
-            9..16 => (1, place, number),
+            9..=11 => (1, place, number),
+            // Directly after 11.
+            23 => (1, place, 12),
+            12..16 => (1, place, number + 1),
             _ => (2, place, number),
         })
     );
     for calls in implementations() {
-        for (index, &(at, byte, number, place)) in damages.iter().enumerate() {
-            for &(later_at, later_byte, ..) in &damages[index + 1..] {
+        for (index, &first) in damages.iter().enumerate() {
+            for &later in &damages[index + 1..] {
+                let (at, byte, number, place) = first;
+                let (later_at, later_byte, ..) = later;
                 // In one place there is room for one of the two.
                 if later_at == at {
                     continue;
@@ -162,6 +189,12 @@ fn of_two_refusals_the_first_is_given() {
                 write_checks(&mut bytes);
                 assert_eq!(
                     (calls.read)(&bytes),
+                    reading(&[first, later]),
+                    "{}, bytes {at} and {later_at}",
+                    calls.name
+                );
+                assert_eq!(
+                    (calls.seal)(&mut bytes),
                     Err(Refusal { number, place }),
                     "{}, bytes {at} and {later_at}",
                     calls.name
@@ -291,7 +324,7 @@ fn the_builder_hands_refusals_on() {
         sheet.line(line);
         sheet.seal().map_err(|refusal| refusal.number)
     };
-    let quiet = Line::xor(0, 0, 0);
+    let quiet = Line::xor_constant(0, 0, 0);
     assert_eq!(one_line(1, &[0], quiet), Err(4));
     assert_eq!(one_line(8, &[], quiet), Err(5));
     assert_eq!(one_line(8, &[0; 9], quiet), Err(5));
@@ -300,6 +333,8 @@ fn the_builder_hands_refusals_on() {
     assert_eq!(one_line(8, &[0], Line::xor(0, 1, 0)), Err(10));
     assert_eq!(one_line(8, &[0], Line::add(0, 0, 0)), Err(11));
     assert_eq!(one_line(8, &[0], Line::subtract(0, 0, 0)), Err(11));
+    assert_eq!(one_line(8, &[0], Line::xor(0, 0, 0)), Err(23));
+    assert_eq!(one_line(8, &[0], Line::xor(0, 0, 256)), Err(23));
     assert_eq!(one_line(8, &[0], Line::rotate_left(0, 8, 0)), Err(12));
     assert_eq!(one_line(8, &[0], Line::rotate_right(0, 0, 0)), Err(12));
     assert_eq!(one_line(8, &[0], Line::shift_left(0, 8, 0)), Err(12));

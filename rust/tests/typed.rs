@@ -3,6 +3,9 @@
 
 #![cfg(has_archive)]
 
+mod common;
+
+use common::write_checks;
 use tablegull::builder::{Line, SheetBuilder};
 use tablegull::{slices, LineReport, Refusal, Runs, Sixteenths, Totals, WholeBits};
 
@@ -80,6 +83,25 @@ fn runs_disagree_or_follow() {
     // line 1 is impossible, and its lowest wrong bit is bit 0
     let disagreement = Runs::Disagree { line: 1, bit: 0 };
     assert_eq!(tablegull::two_runs(&sheet, &[0, 0]), Ok(disagreement));
+}
+
+#[test]
+fn a_word_xored_with_itself_is_not_sealed() {
+    let mut builder = SheetBuilder::new(4, &[1, 4]);
+    builder.line(Line::rotate_left(0, 1, 2));
+    builder.line(Line::xor(1, 1, 0));
+    let refusal = Refusal {
+        number: 23,
+        place: 1,
+    };
+    assert_eq!(builder.seal(), Err(refusal));
+    let mut old = builder.unsealed();
+    write_checks(&mut old);
+    let before = old.clone();
+    assert_eq!(tablegull::seal(&mut old), Err(refusal));
+    assert_eq!(old, before);
+    assert_eq!(tablegull::read(&old), Ok(2));
+    assert_eq!(tablegull::line_report(&old, 1), Ok(LineReport::Certain));
 }
 
 #[test]

@@ -1,4 +1,4 @@
--- What the answers of reading and sealing mean: document 01's number and place for a refusal, the sheet's parts else.
+-- What the answers of reading and sealing mean: the documents' number and place for a refusal, the sheet's parts else.
 use Prim.Native.Nat.{ℕ}
 use Rattle.sheet.specs.Asking.{Verdict}
 use Rattle.sheet.specs.Asking.Verdict.{accepted, refused}

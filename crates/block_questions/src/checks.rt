@@ -7,14 +7,13 @@ ghost use Rattle.buffers.specs.LittleEndian.{numberAt};
 ghost use Rattle.words.specs.Below.{concat};
 ghost use Rattle.sheet.specs.Asking.{verdict};
 ghost use Rattle.sheet.specs.Checks.{checkOf, checkPosition};
-ghost use Rattle.sheet.specs.Questions.{checkQuestion, checkQuestions};
+ghost use Rattle.sheet.specs.Questions.{checkQuestion};
 ghost use Rattle.sheet.specs.Facts.{Whole};
 ghost use Rattle.answers.specs.Answers.{readingMeans};
 use answers::Reading;
 use answers::refused;
 use buffers::u32_at;
 use sheet::Header;
-use sheet::Mode;
 
 // A block's check: its first 127 numbers and its index, added modulo 2^32.
 pub fn block_check(s: &[u8], block: usize) -> u32
@@ -39,7 +38,7 @@ fn check_right(s: &[u8], block: usize) -> bool
 }
 
 // Question 2 of every block.
-fn checks_right(s: &[u8], header: Header) -> Reading
+pub fn check_stage(s: &[u8], header: Header) -> Reading
     requires { ⌜ Whole (now s) header ⌝ }
     ensures { λ r. ⌜ readingMeans r ≡ verdict (concat (header .blocks) (checkQuestion (now (s .entry)))) header ⌝ }
 {
@@ -52,15 +51,4 @@ fn checks_right(s: &[u8], header: Header) -> Reading
         block += 1;
     }
     Reading::Accepted(header)
-}
-
-// Question 2, where the mode asks it.
-pub fn check_stage(s: &[u8], mode: Mode, header: Header) -> Reading
-    requires { ⌜ Whole (now s) header ⌝ }
-    ensures { λ r. ⌜ readingMeans r ≡ verdict (checkQuestions mode (now (s .entry)) header) header ⌝ }
-{
-    match mode {
-        Mode::Read => checks_right(s, header),
-        Mode::Seal => Reading::Accepted(header),
-    }
 }

@@ -13,7 +13,7 @@ use case_text::parse::find;
 use libc::STDIN_FILENO;
 
 // Room for all cases.
-const CASES_BYTES: usize = 327680;
+const CASES_BYTES: usize = 360448;
 
 fn main() {
     let mut input = [0u8; CASES_BYTES];

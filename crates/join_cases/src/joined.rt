@@ -9,6 +9,7 @@ use joining::join;
 use report_cases::whole::lines_of;
 use report_cases::whole::print_lines;
 use sheet_cases::print::print_changes;
+use sheet_cases::print_sealing;
 
 // Joins two sheets, and tells of the joined one what the case asks for.
 pub fn print_joined(case: &[u8], first: &[u8], second: &[u8], names: &[u64]) {
@@ -31,6 +32,10 @@ pub fn print_joined(case: &[u8], first: &[u8], second: &[u8], names: &[u64]) {
         b'r' => {
             let lines = lines_of(&sheet[0..length]);
             print_lines(&sheet[0..length], lines);
+        }
+        b's' => {
+            let joined = sheet;
+            print_sealing(b"\n  seal", &mut sheet[0..length], &joined[0..length]);
         }
         _ => {}
     }

@@ -6,6 +6,7 @@
 // - `bytes ..`, its bytes that are not 0;
 // - `following ..`, how many starting values follow;
 // - `reports ..`, the reports of its lines;
+// - `sealing ..`, what sealing it afresh answers, and the bytes that this changes;
 // - any other, nothing.
 mod joined;
 mod lengths;

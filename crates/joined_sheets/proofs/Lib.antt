@@ -1,2 +1,3 @@
 pub mod JoinedReports
 pub mod Joined
+pub mod SelfXor

@@ -1,2 +1,3 @@
 pub mod JoinedSheet
 pub mod Theorem
+pub mod SelfXor

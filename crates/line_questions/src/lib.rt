@@ -1,46 +1,24 @@
-// Questions 9 to 15, of each line (document 01, "Questions, in order"; document 02, W-201).
+// Questions 9 to 15 of each line, and 23 in sealing (document 01, "Questions, in order"; document 02, W-201 and W-205).
 ghost use mathlib.Core.Path.{_≡_};
 ghost use Prim.Native.Nat.{_<_, _≤_};
 ghost use mathlib.Core.Bool.{_&&_};
 ghost use lib.Dec.{eqb};
 ghost use Rattle.words.specs.Below.{concat};
 ghost use Rattle.sheet.specs.Asking.{verdict};
-ghost use Rattle.sheet.specs.Questions.{operandsEarlier, operandsDiffer, amountRight, constantRight, unusedZero, recordQuestions, lineQuestions};
+ghost use Rattle.sheet.specs.Questions.{amountRight, constantRight, unusedZero, fieldQuestions, recordQuestions, lineQuestions};
 ghost use Rattle.sheet.specs.Facts.{Whole, Limited};
 ghost use Rattle.answers.specs.Answers.{readingMeans};
 use answers::Reading;
 use answers::refused;
 use arithmetic::is_word;
+use operand_questions::operands_differ;
+use operand_questions::operands_earlier;
+use operand_questions::self_xor_admitted;
 use sheet::Header;
 use sheet::Mode;
 use sheet::Record;
 use sheet_fields::predicates::within;
 use sheet_fields::record_of;
-
-// Whether each operand that the kind uses names a word before the given one.
-fn operands_earlier(line: Record, word: usize) -> bool
-    ensures { λ r. ⌜ r ≡ operandsEarlier line word ⌝ }
-{
-    if word <= line.first {
-        return false;
-    }
-    let kind = line.kind;
-    match kind {
-        1 | 5 | 9 => line.second < word,
-        _ => true,
-    }
-}
-
-// Whether the operands of kinds 5 and 9 name different words.
-fn operands_differ(line: Record) -> bool
-    ensures { λ r. ⌜ r ≡ operandsDiffer line ⌝ }
-{
-    let kind = line.kind;
-    match kind {
-        5 | 9 => line.first != line.second,
-        _ => true,
-    }
-}
 
 // Whether the amount of kinds 3, 4, 7 and 8 is from 1 to n - 1.
 fn amount_right(line: Record, n: u32) -> bool
@@ -89,21 +67,12 @@ fn unused_zero(line: Record) -> bool
     }
 }
 
-// Questions 9 to 15 of line k's record.
-fn record_stage(mode: Mode, header: Header, k: usize, line: Record) -> Reading
-    requires { ⌜ Limited header × (k < header .lines) ⌝ }
-    ensures { λ r. ⌜ readingMeans r ≡ verdict (recordQuestions mode header k line) header ⌝ }
+// Questions 12 to 15 of line k's record, whose kind is known.
+fn fields_stage(header: Header, k: usize, line: Record) -> Reading
+    requires { ⌜ Limited header × (1 ≤ line .kind) × (line .kind ≤ 9) ⌝ }
+    ensures { λ r. ⌜ readingMeans r ≡ verdict (fieldQuestions header k line) header ⌝ }
 {
     let n = header.width;
-    if !within(1, 9, line.kind as usize) {
-        return refused(9, k);
-    }
-    if !operands_earlier(line, header.inputs + k) {
-        return refused(10, k);
-    }
-    if !operands_differ(line) {
-        return refused(11, k);
-    }
     if !amount_right(line, n) {
         return refused(12, k);
     }
@@ -119,7 +88,27 @@ fn record_stage(mode: Mode, header: Header, k: usize, line: Record) -> Reading
     Reading::Accepted(header)
 }
 
-// Questions 9 to 15, line by line.
+// All questions of line k's record: 9 to 11, then 23 if the mode is sealing, then 12 to 15.
+fn record_stage(mode: Mode, header: Header, k: usize, line: Record) -> Reading
+    requires { ⌜ Limited header × (k < header .lines) ⌝ }
+    ensures { λ r. ⌜ readingMeans r ≡ verdict (recordQuestions mode header k line) header ⌝ }
+{
+    if !within(1, 9, line.kind as usize) {
+        return refused(9, k);
+    }
+    if !operands_earlier(line, header.inputs + k) {
+        return refused(10, k);
+    }
+    if !operands_differ(line) {
+        return refused(11, k);
+    }
+    if !self_xor_admitted(mode, line) {
+        return refused(23, k);
+    }
+    fields_stage(header, k, line)
+}
+
+// The questions of each line, line by line.
 pub fn lines_stage(s: &[u8], mode: Mode, header: Header) -> Reading
     requires { ⌜ Whole (now s) header × Limited header ⌝ }
     ensures { λ r. ⌜ readingMeans r ≡ verdict (concat (header .lines) (lineQuestions mode (now (s .entry)) header)) header ⌝ }

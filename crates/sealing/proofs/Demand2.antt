@@ -5,29 +5,27 @@ use mathlib.Core.List.{List}
 use Prim.Native.Nat.{ℕ}
 use Rattle.sheet.specs.Asking.{allYes, verdict}
 use Rattle.sheet.specs.Fields.{headerOf, trailOf}
-use Rattle.sheet.specs.Questions.{lengthQuestions, checkQuestions, recordQuestions, lineQuestions, laterQuestions, questions}
+use Rattle.sheet.specs.Questions.{lengthQuestions, laterQuestions, questions}
 use Rattle.sheet.specs.Questions.{IsAccepted}
 use Rattle.sheet.specs.declared.Header.{Header}
 use Rattle.sheet.specs.declared.Mode.the-variants.{Read, Seal}
-use Rattle.sheet.proofs.Asking.{yes-left, yes-right}
 use Rattle.sheet.proofs.Settled.{whole}
 use Rattle.sealing.specs.Sealing.{withChecks}
 use Rattle.sealing.specs.Demands.{SameButChecks, SealingIsRight, SealingForgetsChecks}
 use Rattle.sealing.proofs.OnlyChecks.{same-header, same-questions}
 use Rattle.sealing.proofs.WrittenChecks.{sealed-yes, checks-agree}
 use Rattle.sealing.proofs.Checked.{only-checks, checked-accepted, checked-trail}
+use Rattle.sealing.proofs.SelfXor.{seals-exactly}
 
 -- ---- what sealing accepts then reads as accepted
 
 module _ (s : List ℕ) (yes : allYes (questions Seal s) ≡ true) where
   length-yes : allYes (lengthQuestions s) ≡ true
-  unfolding questions
-  length-yes = yes-left (lengthQuestions s) _ yes
+  length-yes = seals-exactly s .0 yes .0
 
-  -- what sealing asks of header, lines and rest, reading asks too
+  -- what reading asks of header, lines and rest, sealing asks too
   later-yes : allYes (laterQuestions Read s (headerOf s)) ≡ true
-  unfolding questions checkQuestions laterQuestions lineQuestions recordQuestions
-  later-yes = yes-right (lengthQuestions s) _ yes
+  later-yes = seals-exactly s .0 yes .1
 
 pub sealing-is-right : SealingIsRight
 sealing-is-right s e =

@@ -1,4 +1,5 @@
 pub mod OnlyChecks
 pub mod WrittenChecks
 pub mod Checked
+pub mod SelfXor
 pub mod Demand2

@@ -11,15 +11,14 @@ ghost use Rattle.sealing.specs.Sealing.{withChecks, sealed};
 use answers::Reading;
 use block_questions::checks::block_check;
 use buffers::put_number;
-use reading::stages;
-use sheet::Mode;
+use reading::sealing_stages;
 
-// Asks all questions but the checks', and writes every block's check where the answers are yes. A refusal changes no byte.
+// Asks sealing's questions, and writes every block's check where the answers are yes. A refusal changes no byte.
 pub fn seal(sheet: &mut [u8]) -> Reading
     ensures { λ r. ⌜ (readingMeans r ≡ verdict (questions Seal (now (sheet .entry))) (headerOf (now (sheet .entry))))
         × (now (sheet .exit) ≡ sealed (now (sheet .entry))) ⌝ }
 {
-    let reading = stages(sheet, Mode::Seal);
+    let reading = sealing_stages(sheet);
     let Reading::Accepted(header) = reading else {
         return reading;
     };

@@ -9,7 +9,7 @@ ghost use Rattle.sealing.specs.Sealing.{sealed};
 use answers::Answer;
 use answers::Reading;
 
-// Asks all questions but the checks', and writes every block's check. Counts the blocks.
+// Asks sealing's questions, and writes every block's check. Counts the blocks.
 pub fn seal(sheet: &mut [u8]) -> Answer
     ensures { λ r. ⌜ (r ≡ answerOf (verdict (questions Seal (now (sheet .entry))) (headerOf (now (sheet .entry)) .blocks)))
         × (now (sheet .exit) ≡ sealed (now (sheet .entry))) ⌝ }

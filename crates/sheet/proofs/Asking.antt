@@ -3,9 +3,9 @@ use Prim.Native.Nat.{ℕ, zero, suc, _+_, _<_}
 use native.Mathlib.Numerals.{add-one}
 use native.Mathlib.Decide.{le-ind}
 use native.Mathlib.Omega.{arith}
-use mathlib.Core.Path.{_≡_, refl, sym, ap, _∙_}
-use mathlib.Core.Bool.{Bool, true, false, _&&_, cond, and-eq-true-iff, and-assoc}
-use mathlib.Core.List.{List, [], _∷_, _++_, append-nil}
+use mathlib.Core.Path.{_≡_, refl, sym, ap, _∙_, subst}
+use mathlib.Core.Bool.{Bool, true, false, _&&_, cond, and-eq-true-iff, and-assoc, true≢false}
+use mathlib.Core.List.{List, [], _∷_, _++_, append-nil, append-assoc, IsPrefix, prefix-append}
 use Rattle.words.specs.Below.{concat}
 use Rattle.words.proofs.Below.{below-suc}
 use Rattle.sheet.specs.Asking.{Question, ask, allYes, Verdict, verdict}
@@ -125,6 +125,38 @@ stop-at f n k a b {m} {p} l e d =
     other : (qs : List Question) → verdict qs a ≡ refused m p → verdict qs b ≡ refused m p
     other qs h = ap (λ l. verdict l b) (sym (append-nil qs)) ∙ stop qs [] a b h
 
+-- ---- where a list of questions has a no
+
+module _ {A : Type 0} where
+  -- what the questions refuse with
+  pub record Refuses (qs : List Question) (a : A) : Type 0 where
+    pub number : ℕ
+    pub place : ℕ
+    pub says : verdict qs a ≡ refused number place
+
+  pub refuses : (qs : List Question) (a : A) → allYes qs ≡ false → Refuses qs a
+  refuses qs a e = at (verdict qs a) refl
+    where
+      at : (v : Verdict A) → verdict qs a ≡ v → Refuses qs a
+      at (accepted b) d = absurd (true≢false (sym (yes-verdict qs a b d .0) ∙ e))
+      at (refused n p) d = record { number = n; place = p; says = d }
+
+-- ---- what a list of questions begins with
+
+pub prefix-longer : (xs : List Question) {ys zs : List Question} → IsPrefix xs ys → IsPrefix ys zs → IsPrefix xs zs
+prefix-longer xs b d = (b .0 ++ d .0, sym (append-assoc xs (b .0) (d .0)) ∙ ap (λ l. l ++ d .0) (b .1) ∙ d .1)
+
+pub prefix-after : (before xs : List Question) {ys : List Question} → IsPrefix xs ys → IsPrefix (before ++ xs) (before ++ ys)
+prefix-after before xs b = (b .0, append-assoc before xs (b .0) ∙ ap (λ l. before ++ l) (b .1))
+
+pub prefix-at : (f : ℕ → List Question) (n k : ℕ) (xs : List Question) → k < n → IsPrefix xs (f k) → IsPrefix (concat k f ++ xs) (concat n f)
+unfolding concat
+prefix-at f n k xs l b =
+    prefix-longer (concat k f ++ xs) (prefix-after (concat k f) xs b)
+    (le-ind (λ i. IsPrefix (concat k f ++ f k) (concat i f)) ([], append-nil _)
+    (λ i _ h. prefix-longer (concat k f ++ f k) h (prefix-append (concat i f) (f i)))
+    n l)
+
 -- ---- one question after the other
 
 module _ {A : Type 0} where
@@ -139,3 +171,14 @@ module _ {A : Type 0} where
   comes done = refl
   comes (yes {t} {n} {p} {qs} {a} {v} e c) = comes c ∙ ap (λ x. cond x (verdict qs a) (refused n p)) (sym e)
   comes (no {t} {n} {p} {qs} {a} e) = ap (λ x. cond x (verdict qs a) (refused n p)) (sym e)
+
+  -- the converse
+  pub came : (qs : List Question) {a : A} {v : Verdict A} → v ≡ verdict qs a → Comes qs a v
+  unfolding verdict
+  came [] {a} e = subst (Comes [] a) (sym e) done
+  came (q ∷ qs) {a} {v} e = at (q .answer) refl (λ d. came qs d) e
+    where
+      at : (t : Bool) → q .answer ≡ t → (v ≡ verdict qs a → Comes qs a v) → v ≡ cond t (verdict qs a) (refused (q .number) (q .place))
+          → Comes (q ∷ qs) a v
+      at true said rest d = yes said (rest d)
+      at false said rest d = subst (Comes (q ∷ qs) a) (sym d) (no said)

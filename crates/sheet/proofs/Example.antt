@@ -1,5 +1,5 @@
 -- Sheets by computation: with one byte wrong they are refused with their number and place. So are lines of kinds 7 to 9 with a field
--- wrong.
+-- wrong, and in sealing a word XORed with itself.
 use mathlib.Core.Path.{_≡_, refl}
 use mathlib.Core.List.{List, [], _∷_, _++_, map}
 use Prim.Native.Nat.{ℕ}
@@ -12,9 +12,10 @@ use Rattle.sheet.specs.Asking.{Question, Verdict, verdict}
 use Rattle.sheet.specs.Asking.Verdict.{accepted, refused}
 use Rattle.sheet.specs.Fields.{formOf, headerOf, trailOf, recordOf, recordPosition}
 use Rattle.sheet.specs.Checks.{checkOf}
-use Rattle.sheet.specs.Questions.{within, zeroBytes, lengthQuestions, checkQuestions, marked, linesRight, inputRight, headerQuestions, operandsEarlier, operandsDiffer, amountRight, constantRight, unusedZero, recordQuestions, lineQuestions, recordRest, blockRest, restQuestion, laterQuestions, questions, lineNumberQuestions, roomQuestions, startQuestions}
+use Rattle.sheet.specs.Questions.{within, zeroBytes, lengthQuestions, checkQuestions, marked, linesRight, inputRight, headerQuestions, operandsEarlier, operandsDiffer, amountRight, constantRight, unusedZero, xorsItself, kindAndOperandQuestions, selfXorQuestions, fieldQuestions, recordQuestions, lineQuestions, recordRest, blockRest, restQuestion, laterQuestions, questions, lineNumberQuestions, roomQuestions, startQuestions}
 use Rattle.sheet.specs.declared.Header.{Header}
 use Rattle.sheet.specs.declared.Record.{Record}
+use Rattle.sheet.specs.declared.Mode.{Mode}
 use Rattle.sheet.specs.declared.Mode.the-variants.{Read, Seal}
 
 -- ---- one byte of a sheet set, and what is refused then
@@ -41,8 +42,8 @@ pub record Case : Type 0 where
 abbrev pub case : ℕ → ℕ → ℕ → ℕ → Case
 case i b n p = record { position = i; byte = b; number = n; place = p }
 
--- L 32 needs two line blocks. 507 is the last byte before the header's check, 534 in line 1's zero field, 544 in the first record
--- past L.
+-- L 32 needs two line blocks. 507 is the last byte before the header's check, 512 and 528 the two lines' kinds, 534 in line 1's zero
+-- field, 544 in the first record past L.
 abbrev pub cases : List Case
 cases =
     case 3 0x55 3 0
@@ -52,6 +53,8 @@ cases =
     ∷ case 6 32 6 0
     ∷ case 12 1 7 0
     ∷ case 507 1 8 0
+    ∷ case 512 1 23 0
+    ∷ case 528 1 23 1
     ∷ case 534 1 15 1
     ∷ case 544 1 16 1
     ∷ []
@@ -62,7 +65,7 @@ answer s = verdict (questions Seal s) (headerOf s)
 
 pub refusals : map (λ (c : Case). answer (set twoLines (c .position) (c .byte))) cases
     ≡ map (λ (c : Case). refused (c .number) (c .place)) cases
-unfolding twoLines verdict within zeroBytes lengthQuestions checkQuestions marked linesRight inputRight headerQuestions operandsEarlier operandsDiffer amountRight constantRight unusedZero recordQuestions lineQuestions recordRest blockRest restQuestion laterQuestions questions all concat numberAt kindOf formOf recordOf recordPosition
+unfolding twoLines verdict within zeroBytes lengthQuestions checkQuestions marked linesRight inputRight headerQuestions operandsEarlier operandsDiffer amountRight constantRight unusedZero xorsItself kindAndOperandQuestions selfXorQuestions fieldQuestions recordQuestions lineQuestions recordRest blockRest restQuestion laterQuestions questions all concat numberAt kindOf formOf recordOf recordPosition
 refusals = refl
 
 -- ---- one line, and its answer
@@ -124,13 +127,48 @@ wideCases =
     ∷ lineCase 8 8 0 0 0 (refused 12 1)
     ∷ []
 
--- the answers are those of the cases
-abbrev pub Answered : ℕ → List LineCase → Type 0
-Answered n cs = map (λ (c : LineCase). verdict (recordQuestions Read (headerAt n) 1 (c .line)) 0) cs ≡ map (λ (c : LineCase). c .answer) cs
+-- words XORed with themselves, in reading (document 02, W-205)
+abbrev pub readCases : List LineCase
+readCases =
+    lineCase 1 0 1 1 0 (accepted 0)
+    ∷ lineCase 1 0 2 2 0 (refused 10 1)
+    ∷ lineCase 1 1 1 1 0 (refused 15 1)
+    ∷ []
 
-pub line-answers : Answered 2 lineCases × Answered 2 faultyCases × Answered 8 wideCases
-unfolding twoLines verdict within operandsEarlier operandsDiffer amountRight constantRight unusedZero recordQuestions numberAt kindOf formOf
+-- In sealing 23 is asked of kind 1 alone, after 10 and before 14 and 15, whatever the line's other fields are. A difference of 4 has a
+-- third bit.
+abbrev pub sealCases : List LineCase
+sealCases =
+    lineCase 1 0 1 1 0 (refused 23 1)
+    ∷ lineCase 1 0 0 0 0 (refused 23 1)
+    ∷ lineCase 1 0 1 0 0 (accepted 0)
+    ∷ lineCase 1 0 2 2 0 (refused 10 1)
+    ∷ lineCase 1 1 1 1 0 (refused 23 1)
+    ∷ lineCase 1 0 1 1 1 (refused 23 1)
+    ∷ record { line = record { kind = 1; amount = 0; first = 1; second = 1; zero = 1; constant = 0; difference = 0 }; answer = refused 23 1 }
+    ∷ record { line = record { kind = 1; amount = 0; first = 1; second = 1; zero = 0; constant = 0; difference = 4 }; answer = refused 23 1 }
+    ∷ lineCase 2 0 0 0 0 (accepted 0)
+    ∷ lineCase 3 1 0 0 0 (accepted 0)
+    ∷ lineCase 4 1 0 0 0 (accepted 0)
+    ∷ lineCase 5 0 1 1 0 (refused 11 1)
+    ∷ lineCase 6 0 0 0 0 (accepted 0)
+    ∷ lineCase 7 1 0 0 0 (accepted 0)
+    ∷ lineCase 8 1 0 0 0 (accepted 0)
+    ∷ lineCase 9 0 1 1 0 (refused 11 1)
+    ∷ []
+
+-- the answers are those of the cases
+abbrev pub Answered : Mode → ℕ → List LineCase → Type 0
+Answered mode n cs =
+    map (λ (c : LineCase). verdict (recordQuestions mode (headerAt n) 1 (c .line)) 0) cs ≡ map (λ (c : LineCase). c .answer) cs
+
+pub line-answers : Answered Read 2 lineCases × Answered Read 2 faultyCases × Answered Read 8 wideCases
+unfolding twoLines verdict within operandsEarlier operandsDiffer amountRight constantRight unusedZero xorsItself kindAndOperandQuestions selfXorQuestions fieldQuestions recordQuestions numberAt kindOf formOf
 line-answers = (refl, refl, refl)
+
+pub self-xor-answers : Answered Read 2 readCases × Answered Seal 2 sealCases
+unfolding twoLines verdict within operandsEarlier operandsDiffer amountRight constantRight unusedZero xorsItself kindAndOperandQuestions selfXorQuestions fieldQuestions recordQuestions numberAt kindOf formOf
+self-xor-answers = (refl, refl)
 
 -- ---- checks
 

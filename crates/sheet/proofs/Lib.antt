@@ -1,6 +1,7 @@
 pub mod FormSizes
 pub mod FieldBytes
 pub mod Asking
+pub mod LineAsking
 pub mod Testing
 pub mod Settled
 pub mod TrailParts

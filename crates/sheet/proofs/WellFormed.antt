@@ -17,7 +17,7 @@ use Rattle.trail.specs.WellFormed.{WellFormedLine, WellFormed, Sized}
 use Rattle.trail.proofs.KindNumbers.{known}
 use Rattle.sheet.specs.Asking.{allYes}
 use Rattle.sheet.specs.Fields.{formOf, headerOf, inputDifference, recordOf, lineOf, trailOf}
-use Rattle.sheet.specs.Questions.{lengthQuestions, checkQuestions, inputRight, headerQuestions, operandsEarlier, operandsDiffer, amountRight, constantRight, unusedZero, recordQuestions, lineQuestions, laterQuestions, questions}
+use Rattle.sheet.specs.Questions.{lengthQuestions, checkQuestions, inputRight, headerQuestions, operandsEarlier, operandsDiffer, amountRight, constantRight, unusedZero, kindAndOperandQuestions, selfXorQuestions, fieldQuestions, recordQuestions, lineQuestions, laterQuestions, questions}
 use Rattle.sheet.specs.Questions.{IsAccepted}
 use Rattle.sheet.specs.Facts.{Whole, Limited, SheetRead}
 use Rattle.sheet.specs.declared.Header.{Header}
@@ -46,12 +46,12 @@ differ-asked {x} {y} e f = false≢true (rw (eq-eqb x y f) at e)
 
 pub line-right : (mode : Mode) (h : Header) (k : ℕ) (r : Record) → 1 ≤ h .width → allYes (recordQuestions mode h k r) ≡ true
     → WellFormedLine (h .width) (h .inputs + k) (lineOf r)
-unfolding recordQuestions operandsEarlier operandsDiffer amountRight constantRight unusedZero
+unfolding recordQuestions kindAndOperandQuestions fieldQuestions operandsEarlier operandsDiffer amountRight constantRight unusedZero
 line-right mode h k r wide e =
-    let kind = apart _ _ _ _ e in
+    let kind = apart _ _ _ _ (yes-left (kindAndOperandQuestions h k r) _ e) in
     let earlier = apart _ _ _ _ (kind .later) in
     let differ = apart _ _ _ _ (earlier .later) in
-    let amount = apart _ _ _ _ (differ .later) in
+    let amount = apart _ _ _ _ (yes-right (selfXorQuestions mode k r) _ (yes-right (kindAndOperandQuestions h k r) _ e)) in
     let constant = apart _ _ _ _ (amount .later) in
     let difference = apart _ _ _ _ (constant .later) in
     let unused = apart _ _ _ _ (difference .later) in

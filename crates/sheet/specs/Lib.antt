@@ -4,4 +4,5 @@ pub mod Asking
 pub mod Fields
 pub mod Checks
 pub mod Questions
+pub mod SelfXor
 pub mod Facts

@@ -1,5 +1,5 @@
--- The questions of a sheet and of the calls on it (document 01, "Questions, in order", and for kinds 7 to 9 document 02, W-201):
--- each with its answer, its number and its place.
+-- The questions of a sheet and of the calls on it (document 01, "Questions, in order"; document 02, W-201 for kinds 7 to 9 and W-205
+-- for question 23): each with its answer, its number and its place.
 use Prim.Native.Nat.{ℕ, _+_, _*_, _/_, _%_, _-_}
 use mathlib.Core.Path.{_≡_}
 use mathlib.Core.List.{List, [], _∷_, _++_}
@@ -100,24 +100,43 @@ unusedZero r =
     && ((usesSecond (kindOf (r .kind)) || eqb (r .second) 0)
     && (usesConstant (kindOf (r .kind)) || eqb (r .constant) 0)))
 
--- Place: the line.
+-- kind 1 with equal operands: a word XORed with itself
+unfoldable pub xorsItself : Record → Bool
+xorsItself r = eqb (r .kind) 1 && eqb (r .first) (r .second)
+
+-- Of a line, place: the line.
 -- Is the kind 1 to 9? 9
 -- Is each used operand an earlier word? 10
 -- For kinds 5 and 9, do the operands name different words? 11
+unfoldable pub kindAndOperandQuestions : Header → ℕ → Record → List Question
+kindAndOperandQuestions h k r =
+    ask (within 1 9 (r .kind)) 9 k
+    ∷ ask (operandsEarlier r (h .inputs + k)) 10 k
+    ∷ ask (operandsDiffer r) 11 k
+    ∷ []
+
+-- Of a line, in sealing only, place: the line.
+-- For kind 1, do the operands name different words? 23
+unfoldable pub selfXorQuestions : Mode → ℕ → Record → List Question
+selfXorQuestions Read k r = []
+selfXorQuestions Seal k r = ask (not (xorsItself r)) 23 k ∷ []
+
+-- Of a line, place: the line.
 -- For kinds 3, 4, 7 and 8, is the amount 1 to n - 1? 12
 -- For kinds 2, 6, is the constant below 2 ^ n? 13
 -- Is the difference below 2 ^ n? 14
 -- Are the record's zero field and unused fields zero? 15
-unfoldable pub recordQuestions : Mode → Header → ℕ → Record → List Question
-recordQuestions mode h k r =
-    ask (within 1 9 (r .kind)) 9 k
-    ∷ ask (operandsEarlier r (h .inputs + k)) 10 k
-    ∷ ask (operandsDiffer r) 11 k
-    ∷ ask (amountRight r (h .width)) 12 k
+unfoldable pub fieldQuestions : Header → ℕ → Record → List Question
+fieldQuestions h k r =
+    ask (amountRight r (h .width)) 12 k
     ∷ ask (constantRight r (h .width)) 13 k
     ∷ ask (isWord (h .width) (r .difference)) 14 k
     ∷ ask (unusedZero r) 15 k
     ∷ []
+
+-- all questions of a line: 23 directly after 11
+unfoldable pub recordQuestions : Mode → Header → ℕ → Record → List Question
+recordQuestions mode h k r = kindAndOperandQuestions h k r ++ (selfXorQuestions mode k r ++ fieldQuestions h k r)
 
 unfoldable pub lineQuestions : Mode → List ℕ → Header → ℕ → List Question
 lineQuestions mode s h k = recordQuestions mode h k (recordOf (h .form) s k)
@@ -137,12 +156,12 @@ blockRest s h i =
 unfoldable pub restQuestion : List ℕ → Header → ℕ → List Question
 restQuestion s h i = ask (blockRest s h i) 16 (1 + i) ∷ []
 
--- questions 3 to 16
+-- questions 3 to 16, with 23 among them in sealing
 unfoldable pub laterQuestions : Mode → List ℕ → Header → List Question
 laterQuestions mode s h =
     headerQuestions s h ++ (concat (h .lines) (lineQuestions mode s h) ++ concat (h .blocks - 1) (restQuestion s h))
 
--- the sixteen questions, in order
+-- the sixteen questions, in order; in sealing without the second and with 23
 unfoldable pub questions : Mode → List ℕ → List Question
 questions mode s = lengthQuestions s ++ (checkQuestions mode s (headerOf s) ++ laterQuestions mode s (headerOf s))
 

@@ -26,7 +26,7 @@ pub struct Record {
     pub difference: u64,
 }
 
-// Which questions are asked: sealing leaves out those of the checks.
+// Which questions are asked: sealing leaves out those of the checks, and asks 23 of each line.
 pub enum Mode {
     Read,
     Seal,

@@ -31,7 +31,14 @@ fn run_sheet(sheet: &mut [u8], before: &[u8])
     requires { ⌜ length (now before) ≡ length (now sheet) ⌝ }
 {
     print_answer(b": read", reading::read(sheet));
-    print_answer(b"; seal", sealing::seal(sheet));
-    print_changes(before, sheet);
+    print_sealing(b"; seal", sheet, before);
     print(b"\n");
+}
+
+// What sealing answers after a text, and the bytes that it changes. The sheet is given with a copy of its bytes.
+pub fn print_sealing(text: &[u8], sheet: &mut [u8], before: &[u8])
+    requires { ⌜ length (now before) ≡ length (now sheet) ⌝ }
+{
+    print_answer(text, sealing::seal(sheet));
+    print_changes(before, sheet);
 }

@@ -23,7 +23,7 @@ use Rattle.sheet.specs.Blocks.{blockBytes, checkOffset}
 use Rattle.sheet.specs.Asking.{Question, allYes}
 use Rattle.sheet.specs.Asking.Verdict.{accepted}
 use Rattle.sheet.specs.Fields.{headerOf}
-use Rattle.sheet.specs.Questions.{within, zeroBytes, lengthQuestions, lineBlocks, linesRight, inputRight, headerQuestions, operandsEarlier, operandsDiffer, amountRight, constantRight, unusedZero, recordQuestions, lineQuestions, recordRest, blockRest, restQuestion, laterQuestions}
+use Rattle.sheet.specs.Questions.{within, zeroBytes, lengthQuestions, lineBlocks, linesRight, inputRight, headerQuestions, operandsEarlier, operandsDiffer, amountRight, constantRight, unusedZero, kindAndOperandQuestions, selfXorQuestions, fieldQuestions, recordQuestions, lineQuestions, recordRest, blockRest, restQuestion, laterQuestions}
 use Rattle.sheet.specs.declared.Form.{Form}
 use Rattle.sheet.specs.declared.Header.{Header}
 use Rattle.sheet.specs.declared.Record.{Record}
@@ -68,7 +68,7 @@ all-asked {qs} c = yes-verdict qs 0 0 (sym (comes c)) .0
 
 pub line-asked : (h : Header) (k : ℕ) (l : Line) → 1 ≤ h .width → WellFormedLine (h .width) (h .inputs + k) l
     → allYes (recordQuestions Read h k (asRecord l)) ≡ true
-unfolding recordQuestions operandsEarlier operandsDiffer amountRight constantRight unusedZero
+unfolding kindAndOperandQuestions selfXorQuestions fieldQuestions recordQuestions operandsEarlier operandsDiffer amountRight constantRight unusedZero
 line-asked h k l wide good =
     let q = kindOf (l .kind) in
     let known = known-within (l .kind) (good .kind-known) in

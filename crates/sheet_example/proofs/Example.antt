@@ -7,11 +7,11 @@ use Rattle.trail.specs.Kinds.{kindOf}
 use Rattle.sheet.specs.Asking.{allYes}
 use Rattle.sheet.specs.Fields.{formOf, trailOf, recordOf, recordPosition}
 use Rattle.sheet.specs.Checks.{checkOf}
-use Rattle.sheet.specs.Questions.{within, zeroBytes, lengthQuestions, checkQuestion, checkQuestions, marked, linesRight, inputRight, headerQuestions, operandsEarlier, operandsDiffer, amountRight, constantRight, unusedZero, recordQuestions, lineQuestions, recordRest, blockRest, restQuestion, laterQuestions, questions, IsAccepted}
+use Rattle.sheet.specs.Questions.{within, zeroBytes, lengthQuestions, checkQuestion, checkQuestions, marked, linesRight, inputRight, headerQuestions, operandsEarlier, operandsDiffer, amountRight, constantRight, unusedZero, kindAndOperandQuestions, selfXorQuestions, fieldQuestions, recordQuestions, lineQuestions, recordRest, blockRest, restQuestion, laterQuestions, questions, IsAccepted}
 use Rattle.sheet_example.specs.Example.{exampleSheet}
 
 pub example-accepted : IsAccepted exampleSheet
-unfolding exampleSheet allYes checkOf within zeroBytes lengthQuestions checkQuestion checkQuestions marked linesRight inputRight headerQuestions operandsEarlier operandsDiffer amountRight constantRight unusedZero recordQuestions lineQuestions recordRest blockRest restQuestion laterQuestions questions all total concat numberAt kindOf formOf recordOf recordPosition
+unfolding exampleSheet allYes checkOf within zeroBytes lengthQuestions checkQuestion checkQuestions marked linesRight inputRight headerQuestions operandsEarlier operandsDiffer amountRight constantRight unusedZero kindAndOperandQuestions selfXorQuestions fieldQuestions recordQuestions lineQuestions recordRest blockRest restQuestion laterQuestions questions all total concat numberAt kindOf formOf recordOf recordPosition
 example-accepted = refl
 
 -- n is 2, the one input difference 1; line 0 adds the constant 1 to word 0 and states the difference 3

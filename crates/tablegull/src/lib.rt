@@ -32,7 +32,7 @@ pub extern "C" fn tablegull_read(sheet: &[u8]) -> Answer
     read(sheet)
 }
 
-// Asks all questions but the checks', and writes every block's check. Counts the blocks.
+// Asks sealing's questions, and writes every block's check. Counts the blocks.
 #[no_mangle]
 pub extern "C" fn tablegull_seal(sheet: &mut [u8]) -> Answer
     ensures { λ r. ⌜ (r ≡ answerOf (verdict (questions Seal (now (sheet .entry))) (headerOf (now (sheet .entry)) .blocks)))

@@ -1,5 +1,5 @@
 //! The trail checker in plain Rust, written from documents 01 and 02; all but
-//! joining from these alone.
+//! joining and question 23 from these alone.
 //!
 //! The calls have the signatures and the order of refusals of the archive's
 //! calls at the root of this crate. They share no code with the archive, so
@@ -28,6 +28,8 @@ pub fn read(sheet: &[u8]) -> Result<usize, Refusal> {
 
 /// Seals a sheet: asks all questions but the one about checks, then writes the
 /// checks. Answers the number of blocks.
+///
+/// Sealing alone refuses a word XORed with itself, by number 23.
 pub fn seal(sheet: &mut [u8]) -> Result<usize, Refusal> {
     sheet::seal(sheet)
 }

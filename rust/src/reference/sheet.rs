@@ -112,7 +112,7 @@ impl<'a> Sheet<'a> {
     pub fn read(bytes: &'a [u8]) -> Result<Sheet<'a>, Refusal> {
         ask_length(bytes)?;
         ask_checks(bytes)?;
-        read_contents(bytes)
+        read_contents::<false>(bytes)
     }
 
     /// The width n of the words.
@@ -183,8 +183,11 @@ impl<'a> Sheet<'a> {
         write_checks(out);
     }
 
-    /// Questions 9 to 15 about one line.
-    fn ask_line(&self, record: &Record, line: usize) -> Result<(), Refusal> {
+    /// Questions 9 to 15 about one line, and in sealing 23.
+    // Told to keep it in the loop over the lines: as there are two of it, the
+    // compiler does not by itself, and reading takes a third longer then.
+    #[inline]
+    fn ask_line<const SEALING: bool>(&self, record: &Record, line: usize) -> Result<(), Refusal> {
         let made = self.inputs + line;
         let earlier = |word: u16| usize::from(word) < made;
         let mask = self.mask();
@@ -195,6 +198,8 @@ impl<'a> Sheet<'a> {
             refuse(10, line)
         } else if matches!(record.kind, ADD | SUBTRACT) && record.first == record.second {
             refuse(11, line)
+        } else if SEALING && record.kind == XOR && record.first == record.second {
+            refuse(23, line)
         } else if record.has_amount() && !(1..self.width).contains(&record.amount.into()) {
             refuse(12, line)
         } else if record.has_constant() && record.constant > mask {
@@ -208,10 +213,10 @@ impl<'a> Sheet<'a> {
         }
     }
 
-    fn ask_lines(&self) -> Result<(), Refusal> {
+    fn ask_lines<const SEALING: bool>(&self) -> Result<(), Refusal> {
         self.records()
             .enumerate()
-            .try_for_each(|(line, record)| self.ask_line(&record, line))
+            .try_for_each(|(line, record)| self.ask_line::<SEALING>(&record, line))
     }
 
     /// Are records past L and the 12 bytes zero in every line block? 16
@@ -226,11 +231,11 @@ impl<'a> Sheet<'a> {
     }
 }
 
-/// Seals a sheet: writes every block's check once all other questions have the
-/// answer yes.
+/// Seals a sheet: writes every block's check once all other questions, and 23,
+/// have the answer yes.
 pub(super) fn seal(bytes: &mut [u8]) -> Result<usize, Refusal> {
     ask_length(bytes)?;
-    read_contents(bytes)?;
+    read_contents::<true>(bytes)?;
     write_checks(bytes);
     Ok(bytes.len() / BLOCK)
 }
@@ -242,10 +247,11 @@ fn write_checks(bytes: &mut [u8]) {
     }
 }
 
-/// Questions 3 to 16.
-fn read_contents(bytes: &[u8]) -> Result<Sheet<'_>, Refusal> {
+/// Questions 3 to 16, and in sealing 23. The compiler knows which it is, so that
+/// reading does not pay for the question that sealing alone asks.
+fn read_contents<const SEALING: bool>(bytes: &[u8]) -> Result<Sheet<'_>, Refusal> {
     let sheet = read_header(bytes)?;
-    sheet.ask_lines()?;
+    sheet.ask_lines::<SEALING>()?;
     sheet.ask_line_block_rests()?;
     Ok(sheet)
 }

@@ -6,6 +6,7 @@
 
 pub mod damage;
 pub mod pairs;
+pub mod sealing;
 
 use tablegull::builder::{Line, SheetBuilder};
 use tablegull::{reference, Refusal};
@@ -205,6 +206,11 @@ impl Step {
         }
     }
 
+    /// Whether the line XORs a word with itself.
+    pub fn xors_a_word_with_itself(&self) -> bool {
+        self.kind == 1 && self.first == self.second
+    }
+
     /// Whether the line has carries, or borrows in their place.
     pub fn has_carries(&self) -> bool {
         matches!(self.kind, 5 | 6 | 9)
@@ -278,7 +284,7 @@ impl Program {
         bytes
     }
 
-    /// The program of an accepted sheet.
+    /// The program of a sheet, which must have an accepted header.
     pub fn parse(sheet: &[u8]) -> Program {
         let number = |at, size| {
             let bytes: &[u8] = &sheet[at..at + size];
@@ -371,6 +377,11 @@ impl Program {
         values
     }
 
+    /// The first line that XORs a word with itself.
+    pub fn word_xored_with_itself(&self) -> Option<usize> {
+        self.steps.iter().position(Step::xors_a_word_with_itself)
+    }
+
     /// Whether a line repeats an earlier one.
     pub fn repeats(&self, line: usize) -> bool {
         self.steps[..line].contains(&self.steps[line])
@@ -432,6 +443,23 @@ pub fn random_program(
     let start = program.random_start(random);
     program.state_differences_of(&start);
     (program, start)
+}
+
+/// Mostly short programs, and those at the blocks' edges.
+pub fn random_lines(random: &mut Random) -> usize {
+    match random.below(8) {
+        0 => random.pick(&[1, 30, 31, 32, 61, 62, 63, 93, 217, 218, 247, 248]),
+        1 => 1 + random.below(248),
+        _ => 1 + random.below(20),
+    }
+}
+
+/// A random program of any shape.
+pub fn random_shape(random: &mut Random) -> (Program, Vec<u64>) {
+    let width = 2 + random.below(31) as u32;
+    let inputs = 1 + random.below(8);
+    let lines = random_lines(random);
+    random_program(random, width, inputs, lines)
 }
 
 /// A random program with these differences of its inputs, and with none stated.
@@ -539,6 +567,22 @@ pub fn disturb(random: &mut Random, program: &mut Program) {
             }
         }
     }
+}
+
+/// Where a line's record starts.
+pub fn record(line: usize) -> usize {
+    512 * (1 + line / 31) + 16 * (line % 31)
+}
+
+/// The sheet of these lines with right checks, whether or not it can be sealed.
+pub fn sheet_of(width: u8, inputs: &[u32], lines: &[Line]) -> Vec<u8> {
+    let mut sheet = SheetBuilder::new(width, inputs);
+    for line in lines {
+        sheet.line(*line);
+    }
+    let mut bytes = sheet.unsealed();
+    write_checks(&mut bytes);
+    bytes
 }
 
 /// Writes the checks of all whole blocks, whatever is in them.

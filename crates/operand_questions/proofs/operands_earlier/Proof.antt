@@ -2,8 +2,8 @@
 use Rattle.sheet.specs.Questions.{operandsEarlier}
 use Rattle.sheet.proofs.Testing.{testing}
 use Rattle.trail.proofs.KindTests.{kind-tests}
-use Rattle.line_questions.proofs.operands_earlier.Tie as tie
-use Rattle.line_questions.proofs.operands_earlier.Statement.{statement}
+use Rattle.operand_questions.proofs.operands_earlier.Tie as tie
+use Rattle.operand_questions.proofs.operands_earlier.Statement.{statement}
 
 returns : tie.Need-returns
 unfolding operandsEarlier

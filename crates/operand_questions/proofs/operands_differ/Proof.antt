@@ -2,8 +2,8 @@
 use Rattle.sheet.specs.Questions.{operandsDiffer}
 use Rattle.sheet.proofs.Testing.{testing}
 use Rattle.trail.proofs.KindTests.{kind-tests}
-use Rattle.line_questions.proofs.operands_differ.Tie as tie
-use Rattle.line_questions.proofs.operands_differ.Statement.{statement}
+use Rattle.operand_questions.proofs.operands_differ.Tie as tie
+use Rattle.operand_questions.proofs.operands_differ.Statement.{statement}
 
 returns : tie.Need-returns
 unfolding operandsDiffer
