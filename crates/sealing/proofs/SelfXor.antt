@@ -1,20 +1,22 @@
 -- Document 02, W-205: what sealing refuses besides what reading refuses.
 use Prim.Native.Nat.{ℕ, _<_}
+use native.Mathlib.Omega.{arith}
 use mathlib.Core.Path.{_≡_, sym, ap, _∙_}
 use mathlib.Core.Logic.{_↔_}
 use mathlib.Core.Bool.{true, false, and-false, not-eq-not, true≢false}
 use mathlib.Core.List.{List, [], _∷_, _++_, append-assoc, IsPrefix, prefix-append}
 use Rattle.words.specs.Below.{concat}
 use Rattle.sheet.specs.Asking.{Question, ask, allYes, verdict}
+use Rattle.sheet.specs.Asking.Verdict.{refused}
 use Rattle.sheet.specs.Fields.{formOf, headerOf, recordOf}
 use Rattle.sheet.specs.Questions.{lengthQuestions, checkQuestions, headerQuestions, xorsItself, kindAndOperandQuestions, selfXorQuestions, fieldQuestions, recordQuestions, lineQuestions, laterQuestions, questions}
 use Rattle.sheet.specs.SelfXor.{SelfXorAt}
 use Rattle.sheet.specs.declared.Record.{Record}
 use Rattle.sheet.specs.declared.Mode.{Mode}
 use Rattle.sheet.specs.declared.Mode.the-variants.{Read, Seal}
-use Rattle.sheet.proofs.Asking.{yes-append, yes-left, yes-right, yes-both, yes-each, yes-at, no-verdict, stop, refuses, prefix-longer, prefix-after, prefix-at}
+use Rattle.sheet.proofs.Asking.{yes-append, yes-left, yes-right, yes-both, yes-each, yes-at, no-verdict, go-on, stop, refuses, prefix-longer, prefix-after, prefix-at}
 use Rattle.sheet.proofs.LineAsking.{sealing-yes, finds, found}
-use Rattle.sealing.specs.SelfXor.{askedBefore, SealingRefusesSelfXor, SealsExactly}
+use Rattle.sealing.specs.SelfXor.{askedBefore, SealingRefusesSelfXor, SealingRefusesOldSheets, SealsExactly}
 use Rattle.sealing.proofs.WrittenChecks.{sealed-no}
 
 module _ (s : List ℕ) where
@@ -61,16 +63,19 @@ module _ (s : List ℕ) where
         (prefix-after header of-lines
         (prefix-longer of-lines (prefix-at (asks Seal) count k of-line (at .below) line-begins) (prefix-append (concat count (asks Seal)) _))))
 
+    -- what refuses up to 23 of line k refuses the sheet
+    refused-before : {n p : ℕ} → verdict (askedBefore s k ++ no) (headerOf s) ≡ refused n p → verdict (questions Seal s) (headerOf s) ≡ refused n p
+    refused-before e =
+        ap (λ qs. verdict qs (headerOf s)) (sym (sealing-begins .1)) ∙ stop (askedBefore s k ++ no) (sealing-begins .0) (headerOf s) (headerOf s) e
+
     a-no : (xs : List Question) → allYes (xs ++ no) ≡ false
     unfolding allYes
     a-no xs = yes-append xs no ∙ and-false (allYes xs)
 
 pub sealing-refuses-self-xor : SealingRefusesSelfXor
 sealing-refuses-self-xor s k at =
-    let asked = askedBefore s k ++ no s k at in
-    let r = refuses asked (headerOf s) (a-no s k at (askedBefore s k)) in
-    let b = sealing-begins s k at in
-    let refused-so = ap (λ qs. verdict qs (headerOf s)) (sym (b .1)) ∙ stop asked (b .0) (headerOf s) (headerOf s) (r .says) in
+    let r = refuses (askedBefore s k ++ no s k at) (headerOf s) (a-no s k at (askedBefore s k)) in
+    let refused-so = refused-before s k at (r .says) in
     record {
       number = r .number;
       place = r .place;
@@ -86,8 +91,8 @@ module _ (s : List ℕ) where
   unfolding lineQuestions
   line-yes k = sealing-yes (headerOf s) k (line s k)
 
-  none-found : ((k : ℕ) → SelfXorAt s k → ⊥) → (k : ℕ) → k < count s → xorsItself (line s k) ≡ false
-  none-found none k l = not-eq-not .0 (λ e. none k (found s k l e))
+  none-found : (k : ℕ) → k < count s → (SelfXorAt s k → ⊥) → xorsItself (line s k) ≡ false
+  none-found k l none = not-eq-not .0 (λ e. none (found s k l e))
 
 pub seals-exactly : SealsExactly
 unfolding questions checkQuestions laterQuestions
@@ -108,6 +113,23 @@ seals-exactly s = (
       yes-both (lengthQuestions s) _ (e .0)
       (yes-both (header s) _ (yes-left (header s) _ (e .1))
       (yes-both (concat (count s) (asks s Seal)) _
-      (yes-each (asks s Seal) (count s) (λ k l. line-yes s k .1 (each k l, none-found s (e .2) k l)))
+      (yes-each (asks s Seal) (count s) (λ k l. line-yes s k .1 (each k l, none-found s k l (e .2 k))))
       (yes-right (concat (count s) (asks s Read)) _ lines))),
 )
+
+-- ---- of a sheet that reading accepts, nothing but 23 is refused
+
+pub sealing-refuses-old-sheets : SealingRefusesOldSheets
+unfolding questions laterQuestions lineQuestions recordQuestions verdict
+sealing-refuses-old-sheets s k accepted at none =
+    let later = yes-right (checkQuestions Read s (headerOf s)) _ (yes-right (lengthQuestions s) _ accepted) in
+    let lines = yes-left (concat (count s) (asks s Read)) _ (yes-right (header s) _ later) in
+    let each = yes-at (asks s Read) (count s) lines in
+    let before =
+    yes-both (lengthQuestions s) _ (yes-left (lengthQuestions s) _ accepted)
+    (yes-both (header s) _ (yes-left (header s) _ later)
+    (yes-both (concat k (asks s Seal)) _
+    (yes-each (asks s Seal) k
+    (λ j l. let less : j < count s = omega (arith, at .below) in line-yes s j .1 (each j less, none-found s j less (none j l))))
+    (yes-left (kindAndOperandQuestions (headerOf s) k (line s k)) _ (each k (at .below))))) in
+    refused-before s k at (go-on (askedBefore s k) (no s k at) (headerOf s) before)

@@ -1,6 +1,6 @@
 -- A word XORed with itself (document 02, W-205): sealing refuses every sheet that has such a line, and accepts all others that it
 -- accepted before.
-use Prim.Native.Nat.{ℕ}
+use Prim.Native.Nat.{ℕ, _<_}
 use mathlib.Core.Path.{_≡_}
 use mathlib.Core.Logic.{_↔_}
 use mathlib.Core.Bool.{true, false}
@@ -10,6 +10,7 @@ use Rattle.sheet.specs.Asking.{Question, ask, allYes, verdict}
 use Rattle.sheet.specs.Asking.Verdict.{refused}
 use Rattle.sheet.specs.Fields.{formOf, headerOf, recordOf}
 use Rattle.sheet.specs.Questions.{lengthQuestions, headerQuestions, kindAndOperandQuestions, lineQuestions, laterQuestions, questions}
+use Rattle.sheet.specs.Questions.{IsAccepted}
 use Rattle.sheet.specs.SelfXor.{SelfXorAt}
 use Rattle.sheet.specs.declared.Mode.the-variants.{Read, Seal}
 use Rattle.sealing.specs.Sealing.{sealed}
@@ -32,6 +33,12 @@ pub record SelfXorRefused (s : List ℕ) (k : ℕ) : Type 0 where
 
 abbrev pub SealingRefusesSelfXor : Type 0
 SealingRefusesSelfXor = (s : List ℕ) (k : ℕ) → SelfXorAt s k → SelfXorRefused s k
+
+-- Sealing an old sheet afresh refuses it: a sheet that reading accepts is refused by 23, place: its first such line.
+abbrev pub SealingRefusesOldSheets : Type 0
+SealingRefusesOldSheets =
+    (s : List ℕ) (k : ℕ) → IsAccepted s → SelfXorAt s k → ((j : ℕ) → j < k → SelfXorAt s j → ⊥)
+    → verdict (questions Seal s) (headerOf s) ≡ refused 23 k
 
 -- Sealing accepts exactly the sheets with yes to what reading asks but for the checks, and with no such line.
 abbrev pub SealsExactly : Type 0
