@@ -6,7 +6,8 @@
  * with the XOR difference expected of every word.  The calls below read a
  * sheet, seal one, say of each line whether its differential can happen and
  * what it costs, run the program on two starting values, write the trail as
- * clauses for a SAT solver, and join the trails of two sheets.
+ * clauses for a SAT solver, write clauses and reports as text, and join the
+ * trails of two sheets.
  *
  * No call keeps anything between calls, or holds on to a pointer after it
  * returns.
@@ -29,8 +30,10 @@
  * 15 together for one line after the other.  tablegull_seal leaves out 2, and
  * asks 23 of each line directly after 11; no other call asks 23.  Questions 17
  * to 22 are asked after them, by the calls that take what they are about, in the
- * order that the call says below.  The first question whose answer is no is the
- * refusal.  Blocks and lines are numbered from 0, block 0 being the header.
+ * order that the call says below: 17 by the calls that take a line, and by the
+ * two for texts, which take a part.  The first question whose answer is no is
+ * the refusal.  Blocks, lines and parts are numbered from 0, block 0 being the
+ * header.
  *
  *   number  place  the question whose answer is no
  *   ------  -----  ------------------------------------------------------------
@@ -51,7 +54,8 @@
  *       14   line  Is the difference below 2^n?
  *       15   line  Are the record's zero field and unused fields zero?
  *       16  block  Are records past L and the 12 bytes zero in every line block?
- *       17      0  Is the line number below L?
+ *       17      0  Is the line number below L, or in the calls for texts the
+ *                  part at most L?
  *       18      0  Is the output buffer long enough for this very answer?
  *       19      0  Are there exactly m starting words, each below 2^n?
  *       20      0  Have the two sheets the same width?
@@ -96,14 +100,16 @@ extern "C" {
  * The archive does not tell its version: take header and archive from the same
  * sources.
  */
-#define TABLEGULL_VERSION "0.6.0"
+#define TABLEGULL_VERSION "0.7.0"
 
 /* Lengths that are always enough. */
-#define TABLEGULL_MAX_SHEET 4608       /* bytes of a sheet                     */
-#define TABLEGULL_MAX_LINES 248        /* lines of a sheet                     */
-#define TABLEGULL_LINE_REPORT 16       /* bytes of tablegull_line_report       */
-#define TABLEGULL_MAX_REPORT 3968      /* bytes of tablegull_report            */
+#define TABLEGULL_MAX_SHEET 4608        /* bytes of a sheet                    */
+#define TABLEGULL_MAX_LINES 248         /* lines of a sheet                    */
+#define TABLEGULL_LINE_REPORT 16        /* bytes of tablegull_line_report      */
+#define TABLEGULL_MAX_REPORT 3968       /* bytes of tablegull_report           */
 #define TABLEGULL_MAX_LINE_CLAUSES 4944 /* numbers of tablegull_line_clauses   */
+#define TABLEGULL_MAX_CLAUSE_TEXT 34608 /* bytes of tablegull_clause_text      */
+#define TABLEGULL_MAX_REPORT_TEXT 64    /* bytes of tablegull_report_text      */
 
 /* 24 bytes: place is at byte 8, count at byte 16. */
 struct tablegull_answer {
@@ -202,6 +208,39 @@ struct tablegull_answer tablegull_clause_counts(const uint8_t *sheet,
 struct tablegull_answer tablegull_line_clauses(const uint8_t *sheet, size_t len,
                                                uint64_t line, int32_t *out,
                                                size_t out_len);
+
+/*
+ * Writes one part of the sheet's clauses as text, a DIMACS CNF file.  Part 0 is
+ * the header's line, "p cnf VARIABLES CLAUSES" with the counts of
+ * tablegull_clause_counts.  Part 1 + k has the clauses of line k in the order of
+ * tablegull_line_clauses, each on a line of its own: its literals, each followed
+ * by a blank, then "0".  Parts 0 to L, one after the other, are the file.
+ * The text is ASCII.  Every line of it ends with byte 10, the last one of a part
+ * too; no zero byte is written behind it.  Numbers are decimal, with no zero in
+ * front.
+ * Asks 1 to 16, then 17 (part), then 18 (out_len of this part's length or more;
+ * TABLEGULL_MAX_CLAUSE_TEXT is enough for any).
+ * count: the bytes written.
+ */
+struct tablegull_answer tablegull_clause_text(const uint8_t *sheet, size_t len,
+                                              uint64_t part, uint8_t *out,
+                                              size_t out_len);
+
+/*
+ * Writes one part of the sheet's report as text.  Part k below L is a line about
+ * line k: its number, its report's name ("impossible", "certain", "halves" or
+ * "counted"), and weight in sixteenths, chains and N, the numbers of
+ * tablegull_line_report.  Part L is the line "total" with the three numbers of
+ * tablegull_totals.  One blank stands between two of these, and none at the end.
+ * Parts 0 to L, one after the other, are the report.
+ * Bytes and numbers are as in tablegull_clause_text.
+ * Asks 1 to 16, then 17 (part), then 18 (out_len of this part's length or more;
+ * TABLEGULL_MAX_REPORT_TEXT is enough for any).
+ * count: the bytes written.
+ */
+struct tablegull_answer tablegull_report_text(const uint8_t *sheet, size_t len,
+                                              uint64_t part, uint8_t *out,
+                                              size_t out_len);
 
 /*
  * Joins two trails, such as a key schedule's and the rounds'.  Writes a sheet

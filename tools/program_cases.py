@@ -4,7 +4,7 @@ sheets in its folder data. All of it comes from documents 01 and 02, from this f
 reading of the documents.
 
 A case is a line `TEXT FILE`: the text that is printed, and the file of the sheet. The texts are `report`, `clauses`, and
-`header`, which is the first line of the clauses.
+`header`, which is the first line of the clauses; and `digest`, a checksum of all parts of the clauses.
 """
 from math import log2
 from pathlib import Path
@@ -114,7 +114,16 @@ def header_text(data):
     return clauses_text(data).split("\n")[0] + "\n"
 
 
-TEXTS = {"report": report_text, "clauses": clauses_text, "header": header_text}
+def digest_text(data):
+    """From 1 on, for each byte: 1,000,003 times the checksum, plus the byte, modulo the prime 2^32 - 5. Parts past the last, up to
+    part 249, are refused by 17, and count as 1017."""
+    checksum = 1
+    for number in [*clauses_text(data).encode(), *[1017] * (MAX_LINES + 1 - len(read(data).lines))]:
+        checksum = (1000003 * checksum + number) % (2**32 - 5)
+    return f"{checksum}\n"
+
+
+TEXTS = {"report": report_text, "clauses": clauses_text, "header": header_text, "digest": digest_text}
 
 # The program's two texts, case by case.
 cases, answers = [], []
@@ -165,6 +174,10 @@ def accepted_sheets():
     add("all_kinds", trail(8, 2, 12), ("report", "clauses"))
     add("self_xors", self_xors(), ("report", "clauses"))
     add_whole("largest", largest(), "0 123008 0", "23568 246016")
+    # Most of its carries have numbers of five digits.
+    assert sum(len(word) >= 5 for word in clauses_text(largest()).replace("-", "").split()[4:]) > 250000
+    add("largest", largest(), ("digest",))
+    add("lea7", (ROOT / "examples" / "lea7.sheet").read_bytes(), ("digest",))
     add_whole("far_copies", far_copies(), f"0 {246 * 496} 0", "23568 246016")
     # Copies have carries and clauses as any line has: here 6 and 48.
     add_whole("equal_lines", equal_lines(), "0 8 1", f"{4 * 249 + 6 * 248} {48 * 248}")

@@ -75,6 +75,24 @@ extern "C" {
         out_len: usize,
     ) -> Answer;
 
+    /// Writes one part of the clause file; count: the bytes written.
+    pub fn tablegull_clause_text(
+        sheet: *const u8,
+        len: usize,
+        part: u64,
+        out: *mut u8,
+        out_len: usize,
+    ) -> Answer;
+
+    /// Writes one part of the report as text; count: the bytes written.
+    pub fn tablegull_report_text(
+        sheet: *const u8,
+        len: usize,
+        part: u64,
+        out: *mut u8,
+        out_len: usize,
+    ) -> Answer;
+
     /// Writes the joined sheet of two; count: the bytes written.
     pub fn tablegull_join(
         first: *const u8,

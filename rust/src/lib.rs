@@ -15,12 +15,15 @@
 //! | `two_runs` | runs a starting value along the trail | [`Runs`] |
 //! | `clause_counts` | variables and clauses of the sheet | [`ClauseCounts`] |
 //! | `line_clauses` | one line's clauses for a SAT solver | its numbers |
+//! | `clause_text` | the clauses as a DIMACS file | its text |
+//! | `report_text` | all reports and the totals as text | the text |
+//! | `clause_text_part`, `report_text_part` | a part of these texts: they have one more than the sheet has lines | its text |
 //! | `join` | joins the trails of two sheets | the joined sheet's bytes |
 //!
 //! A call that is refused returns a [`Refusal`], and leaves every byte of a
-//! sheet as it was. The module `slices` has the same calls over buffers that
-//! the caller holds: they write from the start of the lent buffer and leave the
-//! rest, and on a refusal all of it.
+//! sheet as it was. The module `slices` has the same calls, for texts those for a
+//! part, over buffers that the caller holds: they write from the start of the lent
+//! buffer and leave the rest, and on a refusal all of it.
 //!
 //! A word XORed with itself is refused by `seal` alone. Sheets that have been
 //! sealed with such a line can still be read and used.
@@ -28,10 +31,10 @@
 //! The calls are there when the build has found the archive: in the folder that
 //! `TABLEGULL_LIB` names, or else in `../target/staticlib`.
 //!
-//! [`mod@reference`] has the same calls in plain Rust, written from documents 01
-//! and 02 (all but joining and question 23 from these alone), and sharing no code
-//! with the archive; the tests hold the two against each other. [`builder`] makes
-//! sheets.
+//! [`mod@reference`] has the same calls, for texts those for a part, in plain Rust,
+//! written from documents 01 and 02 (all but joining, question 23 and the texts from
+//! these alone), and sharing no code with the archive; the tests hold the two against
+//! each other. [`builder`] makes sheets.
 //!
 //! Programs, all with `cargo run --release --bin NAME`:
 //!
@@ -68,6 +71,12 @@ pub const LINE_REPORT: usize = 16;
 /// Numbers of the longest list of one line's clauses.
 pub const MAX_LINE_CLAUSES: usize = 4944;
 
+/// Bytes that are enough for any part of a clause file.
+pub const MAX_CLAUSE_TEXT: usize = 34608;
+
+/// Bytes that are enough for any part of a report's text.
+pub const MAX_REPORT_TEXT: usize = 64;
+
 /// The first question about a call's input whose answer is no.
 #[derive(Clone, Copy, Debug, PartialEq, Eq, Hash)]
 pub struct Refusal {
@@ -100,7 +109,7 @@ impl Refusal {
             14 => "Is the difference below 2^n?",
             15 => "Are the record's zero field and unused fields zero?",
             16 => "Are records past L and the 12 bytes zero in every line block?",
-            17 => "Is the line number below L?",
+            17 => "Is the line number below L, or in the calls for texts the part at most L?",
             18 => "Is the output buffer long enough for this very answer?",
             19 => "Are there exactly m starting words, each below 2^n?",
             20 => "Have the two sheets the same width?",
@@ -123,8 +132,8 @@ impl fmt::Display for Refusal {
 
 impl std::error::Error for Refusal {}
 
-// In the calls below the buffer is as long as the answer, so that 18 is never
-// the refusal.
+// In the calls below the buffer is long enough for the answer, so that 18 is
+// never the refusal.
 
 /// Reads a sheet and answers its number of lines.
 #[cfg(has_archive)]
@@ -212,6 +221,118 @@ pub fn line_clauses(sheet: &[u8], line: usize) -> Result<Vec<i32>, Refusal> {
     let count = slices::line_clauses(sheet, line, &mut numbers)?;
     numbers.truncate(count);
     Ok(numbers)
+}
+
+/// One part of the clause file. Part 0 is the header's line, part 1 + k has the
+/// clauses of line k. A part past L is refused by 17.
+///
+/// ```
+/// use tablegull::builder::{Line, SheetBuilder};
+///
+/// let mut sheet = SheetBuilder::new(2, &[1]);
+/// sheet.line(Line::add_constant(0, 1, 3));
+/// let bytes = sheet.seal()?;
+/// assert_eq!(tablegull::clause_text_part(&bytes, 0)?, "p cnf 6 16\n");
+/// assert!(tablegull::clause_text_part(&bytes, 1)?.starts_with("1 3 0\n-1 -3 0\n"));
+/// assert_eq!(tablegull::clause_text_part(&bytes, 2).unwrap_err().number, 17);
+/// # Ok::<(), tablegull::Refusal>(())
+/// ```
+#[cfg(has_archive)]
+pub fn clause_text_part(sheet: &[u8], part: usize) -> Result<String, Refusal> {
+    let mut bytes = vec![0; MAX_CLAUSE_TEXT];
+    let length = slices::clause_text_part(sheet, part, &mut bytes)?;
+    bytes.truncate(length);
+    Ok(ascii(bytes))
+}
+
+/// One part of the report as text. Part k is line k's line: its number, its
+/// report's name, weight in sixteenths, chains and N. Part L is `total` with
+/// impossible lines, weight and chains. A part past L is refused by 17.
+///
+/// ```
+/// use tablegull::builder::{Line, SheetBuilder};
+///
+/// let mut sheet = SheetBuilder::new(2, &[1]);
+/// sheet.line(Line::add_constant(0, 1, 3));
+/// let bytes = sheet.seal()?;
+/// assert_eq!(tablegull::report_text_part(&bytes, 0)?, "0 counted 0 1 4\n");
+/// assert_eq!(tablegull::report_text_part(&bytes, 1)?, "total 0 0 1\n");
+/// assert_eq!(tablegull::report_text_part(&bytes, 2).unwrap_err().number, 17);
+/// # Ok::<(), tablegull::Refusal>(())
+/// ```
+#[cfg(has_archive)]
+pub fn report_text_part(sheet: &[u8], part: usize) -> Result<String, Refusal> {
+    let mut bytes = vec![0; MAX_REPORT_TEXT];
+    let length = slices::report_text_part(sheet, part, &mut bytes)?;
+    bytes.truncate(length);
+    Ok(ascii(bytes))
+}
+
+/// The sheet's clauses as a DIMACS file. The longest has over six million bytes;
+/// [`clause_text_part`] gives it in parts.
+///
+/// ```
+/// use tablegull::builder::{Line, SheetBuilder};
+///
+/// let mut sheet = SheetBuilder::new(2, &[1]);
+/// sheet.line(Line::add_constant(0, 1, 3));
+/// let text = tablegull::clause_text(&sheet.seal()?)?;
+/// let expected = "\
+/// p cnf 6 16
+/// 1 3 0
+/// -1 -3 0
+/// 1 -5 0
+/// -1 5 0
+/// 2 5 -4 0
+/// 2 -5 4 0
+/// -2 5 4 0
+/// -2 -5 -4 0
+/// -1 -3 0
+/// 1 3 0
+/// -1 -6 0
+/// 1 6 0
+/// 2 6 4 0
+/// 2 -6 -4 0
+/// -2 6 -4 0
+/// -2 -6 4 0
+/// ";
+/// assert_eq!(text, expected);
+/// # Ok::<(), tablegull::Refusal>(())
+/// ```
+#[cfg(has_archive)]
+pub fn clause_text(sheet: &[u8]) -> Result<String, Refusal> {
+    joined_parts(sheet, |part| clause_text_part(sheet, part))
+}
+
+/// All reports and the totals as text.
+///
+/// ```
+/// use tablegull::builder::{Line, SheetBuilder};
+///
+/// let mut sheet = SheetBuilder::new(2, &[1]);
+/// sheet.line(Line::add_constant(0, 1, 3));
+/// let text = tablegull::report_text(&sheet.seal()?)?;
+/// assert_eq!(text, "0 counted 0 1 4\ntotal 0 0 1\n");
+/// # Ok::<(), tablegull::Refusal>(())
+/// ```
+#[cfg(has_archive)]
+pub fn report_text(sheet: &[u8]) -> Result<String, Refusal> {
+    joined_parts(sheet, |part| report_text_part(sheet, part))
+}
+
+/// Parts 0 to L of a text of this sheet.
+#[cfg(has_archive)]
+fn joined_parts(
+    sheet: &[u8],
+    part_text: impl Fn(usize) -> Result<String, Refusal>,
+) -> Result<String, Refusal> {
+    let lines = read(sheet)?;
+    (0..=lines).map(part_text).collect()
+}
+
+#[cfg(has_archive)]
+fn ascii(bytes: Vec<u8>) -> String {
+    String::from_utf8(bytes).expect("the archive writes ASCII")
 }
 
 /// The joined sheet: the first's inputs and lines, then the second's lines with

@@ -122,6 +122,42 @@ pub fn line_clauses(sheet: &[u8], line: usize, out: &mut [i32]) -> Result<usize,
     })
 }
 
+/// Writes one part of the clause file. Part 0 is the header's line, part 1 + k
+/// has the clauses of line k, and parts 0 to L, one after the other, are the
+/// file. Answers the number of bytes written, at most
+/// [`MAX_CLAUSE_TEXT`](crate::MAX_CLAUSE_TEXT).
+pub fn clause_text_part(sheet: &[u8], part: usize, out: &mut [u8]) -> Result<usize, Refusal> {
+    // SAFETY: each pointer and length are one slice's, and `out` is borrowed
+    // for writing.
+    outcome(unsafe {
+        ffi::tablegull_clause_text(
+            sheet.as_ptr(),
+            sheet.len(),
+            part as u64,
+            out.as_mut_ptr(),
+            out.len(),
+        )
+    })
+}
+
+/// Writes one part of the report as text. Part k is line k's line, part L has
+/// the totals, and parts 0 to L, one after the other, are the report. Answers
+/// the number of bytes written, at most
+/// [`MAX_REPORT_TEXT`](crate::MAX_REPORT_TEXT).
+pub fn report_text_part(sheet: &[u8], part: usize, out: &mut [u8]) -> Result<usize, Refusal> {
+    // SAFETY: each pointer and length are one slice's, and `out` is borrowed
+    // for writing.
+    outcome(unsafe {
+        ffi::tablegull_report_text(
+            sheet.as_ptr(),
+            sheet.len(),
+            part as u64,
+            out.as_mut_ptr(),
+            out.len(),
+        )
+    })
+}
+
 /// Writes the joined sheet: the first's inputs and lines, then the second's
 /// lines with operands renumbered. `names` has for each input of the second the
 /// word of the first that it is. Lines that XOR a word with itself are kept.

@@ -11,31 +11,13 @@ fn the_archive_is_left_out() {}
 #[cfg(has_archive)]
 mod compared {
     use std::fmt::Debug;
-    use std::path::Path;
 
     use super::common::damage::damage_a_field;
     use super::common::sealing::{random_sheet_to_seal, Met};
     use super::common::{
-        disturb, random_lines, random_program, random_shape, write_checks, Outcome, Program,
-        Random, ARCHIVE, REFERENCE,
+        disturb, random_lines, random_program, random_shape, write_checks, KeptOnFailure, Outcome,
+        Program, Random, ARCHIVE, REFERENCE,
     };
-
-    /// Writes a sheet to a file if a comparison on it fails, to look into it.
-    struct KeptOnFailure<'a>(&'a [u8]);
-
-    impl Drop for KeptOnFailure<'_> {
-        fn drop(&mut self) {
-            if std::thread::panicking() {
-                let thread = std::thread::current();
-                let test = thread.name().and_then(|name| name.split("::").last());
-                let name = format!("failed-{}.sheet", test.unwrap_or("test"));
-                let path = Path::new(env!("CARGO_TARGET_TMPDIR")).join(name);
-                if std::fs::write(&path, self.0).is_ok() {
-                    eprintln!("the sheet is in {}", path.display());
-                }
-            }
-        }
-    }
 
     /// What a buffer is filled with before a call.
     trait Element: Copy + Debug + PartialEq {
@@ -149,6 +131,23 @@ mod compared {
         );
     }
 
+    fn compare_texts(random: &mut Random, sheet: &[u8], part: usize, length: usize) {
+        compare(
+            random,
+            length,
+            "clause_text_part",
+            |out| (ARCHIVE.clause_text_part)(sheet, part, out),
+            |out| (REFERENCE.clause_text_part)(sheet, part, out),
+        );
+        compare(
+            random,
+            length,
+            "report_text_part",
+            |out| (ARCHIVE.report_text_part)(sheet, part, out),
+            |out| (REFERENCE.report_text_part)(sheet, part, out),
+        );
+    }
+
     fn compare_report(random: &mut Random, sheet: &[u8], length: usize) {
         compare(
             random,
@@ -248,6 +247,7 @@ mod compared {
         let length = random.pick(&[0, 1, 2, 3, 4, 15, 16, 17, 496, 3968, 5000]);
         let start: Vec<u64> = (0..random.below(10)).map(|_| random.next() >> 60).collect();
         compare_line_calls(random, sheet, line, length);
+        compare_texts(random, sheet, line, length);
         compare_report(random, sheet, length);
         compare_small_calls(random, sheet, &start, length.min(8));
         assert!(sheet == before, "a read-only sheet was written");

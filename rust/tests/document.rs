@@ -4,19 +4,11 @@
 
 mod common;
 
-use common::{counted, halves, implementations, write_checks, Calls, Report, CERTAIN, IMPOSSIBLE};
+use common::{
+    counted, example, halves, implementations, write_checks, Calls, Report, CERTAIN, IMPOSSIBLE,
+};
 use tablegull::builder::{Line, SheetBuilder};
 use tablegull::Refusal;
-
-fn example() -> Vec<u8> {
-    let mut bytes = vec![0; 1024];
-    bytes[..9].copy_from_slice(&[0x41, 0x52, 0x58, 0x54, 2, 1, 1, 0, 1]);
-    bytes[508..512].copy_from_slice(&[0x44, 0x53, 0x59, 0x54]);
-    bytes[512] = 6;
-    bytes[520..528].copy_from_slice(&[1, 0, 0, 0, 3, 0, 0, 0]);
-    bytes[1020..].copy_from_slice(&[0x0b, 0, 0, 0]);
-    bytes
-}
 
 #[test]
 fn example_sheet_is_what_the_builder_makes() {

@@ -1,6 +1,9 @@
-//! The C header and this package are of one version, and have the same questions.
+//! The C header and this package are of one version, and have the same lengths
+//! and questions.
 
-use tablegull::Refusal;
+use tablegull::{
+    Refusal, LINE_REPORT, MAX_CLAUSE_TEXT, MAX_LINES, MAX_LINE_CLAUSES, MAX_REPORT_TEXT, MAX_SHEET,
+};
 
 const HEADER: &str = include_str!("../../include/tablegull.h");
 
@@ -14,6 +17,25 @@ fn the_header_has_the_packages_version() {
         HEADER.lines().any(|line| line == wanted),
         "include/tablegull.h has no line `{wanted}`"
     );
+}
+
+#[test]
+fn the_header_has_the_packages_lengths() {
+    let defined = HEADER.lines().filter_map(|line| {
+        let mut words = line.strip_prefix("#define TABLEGULL_")?.split_whitespace();
+        let (name, value) = (words.next()?, words.next()?);
+        Some((name, value.parse::<usize>().ok()?))
+    });
+    let wanted = [
+        ("MAX_SHEET", MAX_SHEET),
+        ("MAX_LINES", MAX_LINES),
+        ("LINE_REPORT", LINE_REPORT),
+        ("MAX_REPORT", MAX_LINES * LINE_REPORT),
+        ("MAX_LINE_CLAUSES", MAX_LINE_CLAUSES),
+        ("MAX_CLAUSE_TEXT", MAX_CLAUSE_TEXT),
+        ("MAX_REPORT_TEXT", MAX_REPORT_TEXT),
+    ];
+    assert_eq!(defined.collect::<Vec<(&str, usize)>>(), wanted);
 }
 
 /// The rows of the header's table of questions: number, place, and the question

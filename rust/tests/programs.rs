@@ -2,10 +2,13 @@
 
 mod common;
 
-use std::io::Write;
-use std::path::PathBuf;
+use std::fs::File;
+use std::io::{Read, Write};
+use std::path::{Path, PathBuf};
 use std::process::{Command, Output, Stdio};
+use std::time::{Duration, Instant};
 
+use common::texts::Text;
 use common::{implementations, random_program, Program, Random, Step};
 
 fn run(program: &str, arguments: &[&str], input: &[u8]) -> Output {
@@ -110,38 +113,138 @@ fn texts_are_those_of_the_calls() {
         let sheet = program.sheet();
         let (report, clauses) = (report(&sheet), clauses(&sheet));
         for calls in implementations() {
-            assert!(report == report_text(&calls, &sheet), "{}", calls.name);
-            assert!(clauses == clause_text(&calls, &sheet), "{}", calls.name);
+            for (printed, text) in [(&report, Text::Report), (&clauses, Text::Clauses)] {
+                let by_other_calls = calls.text_by_other_calls(text, &sheet);
+                assert!(*printed == by_other_calls, "{}: {text:?}", calls.name);
+                let joined = calls.joined_text(text, &sheet);
+                assert!(*printed == joined, "{}: {text:?}, parts", calls.name);
+            }
         }
     }
 }
 
-fn report_text(calls: &common::Calls, sheet: &[u8]) -> String {
-    let names = ["impossible", "certain", "halves", "counted"];
-    let mut text = String::new();
-    for (line, report) in calls.reports(sheet).iter().enumerate() {
-        let name = names[usize::from(report.number)];
-        let (weight, chains, count) = (report.weight, report.chains, report.count);
-        text += &format!("{line} {name} {weight} {chains} {count}\n");
-    }
-    let mut totals = [0; 3];
-    (calls.totals)(sheet, &mut totals).unwrap();
-    let [impossible, weight, chains] = totals;
-    text + &format!("total {impossible} {weight} {chains}\n")
+/// The programs that print a text: the reference's, and the proved ones where they
+/// are there, in the folder that `TABLEGULL_BIN` names or else in `../target/bin`.
+fn text_programs() -> Vec<PathBuf> {
+    let named = std::env::var_os("TABLEGULL_BIN").map(PathBuf::from);
+    let beside_the_package = || Path::new(env!("CARGO_MANIFEST_DIR")).join("../target/bin");
+    let folder = named.clone().unwrap_or_else(beside_the_package);
+    // Whoever names a folder wants the programs: without them the test fails.
+    let proved = ["trail_report", "trail_clauses"]
+        .map(|name| folder.join(name))
+        .into_iter()
+        .filter(|program| named.is_some() || program.is_file());
+    let reference = [
+        env!("CARGO_BIN_EXE_reference_report"),
+        env!("CARGO_BIN_EXE_reference_clauses"),
+    ];
+    reference
+        .map(PathBuf::from)
+        .into_iter()
+        .chain(proved)
+        .collect()
 }
 
-fn clause_text(calls: &common::Calls, sheet: &[u8]) -> String {
-    let mut counts = [0; 2];
-    (calls.clause_counts)(sheet, &mut counts).unwrap();
-    let [variables, clauses] = counts;
-    let mut text = format!("p cnf {variables} {clauses}\n");
-    for clause in calls.joined_clauses(sheet) {
-        for literal in clause {
-            text += &format!("{literal} ");
+/// Runs a program whose output cannot be written, and answers what it prints on
+/// standard error. A program that has not ended after a minute never will.
+fn run_into_a_full_device(program: &Path, input: &[u8]) -> String {
+    let full = File::options().write(true).open("/dev/full").unwrap();
+    let mut child = Command::new(program)
+        .stdin(Stdio::piped())
+        .stdout(full)
+        .stderr(Stdio::piped())
+        .spawn()
+        .unwrap_or_else(|error| panic!("{}: {error}", program.display()));
+    // A sheet fits into a pipe, so that this does not wait for the program.
+    let _ = child.stdin.take().unwrap().write_all(input);
+    let start = Instant::now();
+    while child.try_wait().unwrap().is_none() {
+        if start.elapsed() > Duration::from_secs(60) {
+            child.kill().unwrap();
+            panic!("{} does not end", program.display());
         }
-        text += "0\n";
+        std::thread::sleep(Duration::from_millis(1));
     }
-    text
+    let mut printed = String::new();
+    let mut errors = child.stderr.take().unwrap();
+    errors.read_to_string(&mut printed).unwrap();
+    printed
+}
+
+#[test]
+fn a_full_device_is_told_in_one_line() {
+    let (largest, _) = random_program(&mut Random::new(13), 32, 8, 248);
+    // Texts of one write and of many, and of a refusal.
+    for sheet in [example().sheet(), largest.sheet(), Vec::new()] {
+        for program in text_programs() {
+            let printed = run_into_a_full_device(&program, &sheet);
+            let one_line = printed.lines().count() == 1 && printed.ends_with('\n');
+            assert!(one_line, "{}: {printed:?}", program.display());
+            assert_ne!(printed.trim(), "", "{}", program.display());
+        }
+    }
+}
+
+/// What a program has to print of a sheet, by its name.
+fn printed_by(program: &Path, sheet: &[u8]) -> String {
+    if program.ends_with("reference_report") || program.ends_with("trail_report") {
+        report(sheet)
+    } else {
+        clauses(sheet)
+    }
+}
+
+#[test]
+fn input_that_comes_in_two_writes_is_read_whole() {
+    let (longest, _) = random_program(&mut Random::new(14), 32, 8, 248);
+    let sheet = longest.sheet();
+    let (first, second) = sheet.split_at(512);
+    for program in text_programs() {
+        let mut child = Command::new(&program)
+            .stdin(Stdio::piped())
+            .stdout(Stdio::piped())
+            .spawn()
+            .unwrap();
+        let mut input = child.stdin.take().unwrap();
+        input.write_all(first).unwrap();
+        // Long enough that a program that reads once has read.
+        std::thread::sleep(Duration::from_millis(200));
+        input.write_all(second).unwrap();
+        drop(input);
+        let printed = text(&child.wait_with_output().unwrap());
+        assert!(
+            printed == printed_by(&program, &sheet),
+            "{}",
+            program.display()
+        );
+    }
+}
+
+#[test]
+fn what_is_written_before_a_failed_write_is_the_texts_beginning() {
+    let (longest, _) = random_program(&mut Random::new(15), 32, 8, 248);
+    let sheet = longest.sheet();
+    for (number, program) in text_programs().iter().enumerate() {
+        let file = SheetFile::new(&format!("cut-{number}"), b"");
+        // Of the first write the file takes some bytes, and of the next none.
+        let limited = format!(
+            "trap '' XFSZ; ulimit -f 2; exec '{}' > '{}'",
+            program.display(),
+            file.0.display()
+        );
+        let output = run("sh", &["-c", &limited], &sheet);
+        let written = std::fs::read(&file.0).unwrap();
+        let whole = printed_by(program, &sheet);
+        let name = program.display();
+        assert!(
+            !written.is_empty() && written.len() < whole.len(),
+            "{name}: {}",
+            written.len()
+        );
+        assert!(whole.as_bytes().starts_with(&written), "{name}");
+        let told = String::from_utf8(output.stderr).unwrap();
+        assert_eq!(told.lines().count(), 1, "{name}: {told:?}");
+    }
 }
 
 /// A file of this test process alone, gone when it goes out of use.

@@ -269,6 +269,13 @@ fn questions_about_a_call_come_after_the_sheet() {
         assert_eq!(clauses(&good, 1 << 32, &mut [0; 4944]), refused(17, 0));
         assert_eq!(clauses(&good, 32, &mut []), refused(18, 0));
 
+        for text in [calls.clause_text_part, calls.report_text_part] {
+            assert_eq!(text(&bad, 34, &mut []), refused(9, 32));
+            assert_eq!(text(&good, 34, &mut []), refused(17, 0));
+            assert_eq!(text(&good, usize::MAX, &mut [0; 34608]), refused(17, 0));
+            assert_eq!(text(&good, 33, &mut []), refused(18, 0));
+        }
+
         assert_eq!((calls.report)(&bad, &mut []), refused(9, 32));
         assert_eq!((calls.report)(&good, &mut [0; 33 * 16 - 1]), refused(18, 0));
         assert_eq!((calls.report)(&good, &mut [0; 33 * 16]), Ok(33 * 16));
@@ -312,6 +319,38 @@ fn every_line_measures_its_own_need() {
                 "{}, line {line}",
                 calls.name
             );
+            assert_eq!(out[need], 7);
+        }
+    }
+}
+
+#[test]
+fn every_part_of_a_text_measures_its_own_need() {
+    let good = sheet();
+    for calls in implementations() {
+        let (clauses, report) = (calls.clause_text_part, calls.report_text_part);
+        // The last line's clauses, 4 for each bit and run, worked out by hand: of
+        // digits 131 for the three literals of all bits, of signs and blanks 6
+        // and 12 a bit, and 0 and the line's end after each clause.
+        let need_of_clauses = 2 * (4 * 131 + 20 * (6 + 12 + 4 * 2));
+        for (call, part, need) in [
+            (clauses, 0, "p cnf 1062 7080\n".len()),
+            (clauses, 33, need_of_clauses),
+            (report, 0, "0 certain 0 0 0\n".len()),
+            (report, 5, "5 impossible 0 0 0\n".len()),
+            (report, 13, "13 halves 32 0 0\n".len()),
+            (report, 33, "total 3 64 0\n".len()),
+        ] {
+            let mut out = vec![7; need + 1];
+            let short = call(&good, part, &mut out[..need - 1]);
+            let refused = Err(Refusal {
+                number: 18,
+                place: 0,
+            });
+            assert_eq!(short, refused, "{}, part {part}", calls.name);
+            assert!(out.iter().all(|&byte| byte == 7));
+            let answer = call(&good, part, &mut out);
+            assert_eq!(answer, Ok(need), "{}, part {part}", calls.name);
             assert_eq!(out[need], 7);
         }
     }

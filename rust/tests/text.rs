@@ -1,4 +1,5 @@
-//! Decimal text.
+//! The package's own writer of decimal text, and a program's input. The calls for
+//! texts are in `text_parts.rs`.
 
 mod common;
 

@@ -124,6 +124,49 @@ fn clauses_have_their_own_length() {
 }
 
 #[test]
+fn texts_are_their_parts() {
+    let sheet = sheet();
+    let mut clauses = String::new();
+    let mut report = String::new();
+    for part in 0..=4 {
+        let text = tablegull::clause_text_part(&sheet, part).expect("a part of the text");
+        let mut lent = [7; tablegull::MAX_CLAUSE_TEXT];
+        let length = slices::clause_text_part(&sheet, part, &mut lent);
+        assert_eq!(length, Ok(text.len()));
+        assert_eq!(lent[..text.len()], *text.as_bytes());
+        clauses += &text;
+
+        let text = tablegull::report_text_part(&sheet, part).expect("a part of the text");
+        let mut lent = [7; tablegull::MAX_REPORT_TEXT];
+        let length = slices::report_text_part(&sheet, part, &mut lent);
+        assert_eq!(length, Ok(text.len()));
+        assert_eq!(lent[..text.len()], *text.as_bytes());
+        report += &text;
+    }
+    let expected = "0 certain 0 0 0\n1 impossible 0 0 0\n2 halves 32 0 0\n3 counted 8 1 12\n\
+                    total 1 40 1\n";
+    assert_eq!(report, expected);
+    let counts = tablegull::clause_counts(&sheet).expect("an accepted sheet");
+    let header = format!("p cnf {} {}\n", counts.variables, counts.clauses);
+    assert!(clauses.starts_with(&header));
+    assert_eq!(tablegull::clause_text(&sheet), Ok(clauses));
+    assert_eq!(tablegull::report_text(&sheet), Ok(report));
+}
+
+#[test]
+fn texts_are_refused() {
+    let mut sheet = sheet();
+    let refused = |number, place| Err(Refusal { number, place });
+    assert_eq!(tablegull::clause_text_part(&sheet, 5), refused(17, 0));
+    assert_eq!(tablegull::report_text_part(&sheet, 5), refused(17, 0));
+    sheet[1023] ^= 1;
+    assert_eq!(tablegull::clause_text_part(&sheet, 0), refused(2, 1));
+    assert_eq!(tablegull::report_text_part(&sheet, 0), refused(2, 1));
+    assert_eq!(tablegull::clause_text(&sheet), refused(2, 1));
+    assert_eq!(tablegull::report_text(&sheet), refused(2, 1));
+}
+
+#[test]
 fn a_joined_sheet_has_its_own_length() {
     let sheet = sheet();
     let mut joined = sheet.clone();

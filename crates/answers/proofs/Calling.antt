@@ -2,19 +2,20 @@
 use Prim.Native.Nat.{ℕ, _<_, _≤_}
 use native.Mathlib.Nat.{zero-add}
 use native.Mathlib.Omega.{arith}
-use mathlib.Core.Path.{_≡_, sym, ap, subst, _∙_}
+use mathlib.Core.Path.{_≡_, sym, ap, ap₂, subst, _∙_}
 use mathlib.Core.Bool.{Bool, true, false, _&&_, cond}
 use mathlib.Core.List.{List, [], _++_, append-nil}
 use borrow.Author.Tests.{lt-ltb, le-ltb, le-leb, lt-leb}
 use lib.Dec.{leb, ltb}
-use lib.ListN.{length}
+use lib.ListN.{length, take}
 use Rattle.buffers.specs.Overwrite.{overwrite, Wrote}
+use Rattle.buffers.proofs.Overwrite.{take-overwrite}
 use Rattle.sheet.specs.Asking.{Question, allYes, Verdict, verdict}
 use Rattle.sheet.specs.Asking.Verdict.{accepted, refused}
 use Rattle.sheet.specs.Fields.{headerOf}
 use Rattle.sheet.specs.Questions.{questions}
 use Rattle.answers.specs.Answers.{readingMeans, refusalOf, answerOf}
-use Rattle.answers.specs.Calls.{writing}
+use Rattle.answers.specs.Calls.{writing, writtenAs, written as written-by}
 use Rattle.sheet.specs.Facts.{SheetRead}
 use Rattle.answers.specs.declared.Answer.{Answer}
 use Rattle.sheet.specs.declared.Header.{Header}
@@ -142,3 +143,18 @@ module _ {A : Type 0} (asks : List Question) (values out : List A) where
       → accepted (length values) ≡ verdict asks (length values)
       → (r ≡ answerOf (writing asks values out .answer)) × (after ≡ writing asks values out .buffer)
   c-written d w e = let k = written w e in (d ∙ ap answerOf (k .0), k .1)
+
+-- with yes to all that it asks, a call has written its values
+pub written-values : {A : Type 0} (asks : List Question) (values out : List A) → allYes asks ≡ true → length values ≤ length out
+    → written-by (writing asks values out) ≡ values
+unfolding writing
+written-values asks values out passed room =
+    ap₂ writtenAs (verdict-yes asks (length values) passed) (ap (λ (t : Bool). cond t (overwrite 0 values out) out) passed)
+    ∙ ap (λ (n : ℕ). take n (overwrite 0 values out)) (sym (zero-add (length values)))
+    ∙ take-overwrite 0 values out (omega arith)
+
+-- and a call that is refused has written nothing
+pub written-nothing : {A : Type 0} (asks : List Question) (values out : List A) {n p : ℕ} → verdict asks (length values) ≡ refused n p
+    → written-by (writing asks values out) ≡ []
+unfolding writing
+written-nothing asks values out e = ap (λ (v : Verdict ℕ). writtenAs v (writing asks values out .buffer)) e

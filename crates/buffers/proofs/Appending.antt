@@ -1,11 +1,11 @@
 -- How code appends to a lent buffer: runs of writes, and what a loop of writes has left to write. Assumes nothing.
 use mathlib.Core.Path.{_≡_, refl, sym, ap, _∙_}
 use mathlib.Core.List.{List, [], _∷_, _++_}
-use Prim.Native.Nat.{ℕ, _+_, _≤_, _<_}
+use Prim.Native.Nat.{ℕ, _+_, _-_, _≤_, _<_}
 use native.Mathlib.Omega.{arith}
-use lib.ListN.{length, set, length-append}
+use lib.ListN.{length, take, set, length-append}
 use Rattle.buffers.specs.Overwrite.{overwrite, Wrote}
-use Rattle.buffers.proofs.Overwrite.{overwrite-nil, overwrite-length, overwrite-twice, set-overwrite}
+use Rattle.buffers.proofs.Overwrite.{overwrite-nil, overwrite-length, overwrite-twice, set-overwrite, take-overwrite}
 
 module _ {A : Type 0} where
   -- All of `all` is to be written over l from `at` on, and there is room: l is now m, and rest is still to be written from p on.
@@ -63,3 +63,17 @@ module _ {A : Type 0} where
 
   pub left-end : {at : ℕ} {all l : List A} {p : ℕ} {m : List A} → Left at all l p [] m → Wrote at all l p m
   left-end = left-done refl
+
+  -- the last piece has room, and with it all is written
+  pub left-room : {at : ℕ} {all l : List A} {p : ℕ} {rest m : List A} → Left at all l p rest m → p + length rest ≤ length m
+  left-room h = omega arith
+
+  pub left-last : {at : ℕ} {all l : List A} {p : ℕ} {rest m : List A} {q : ℕ} {k : List A} → Left at all l p rest m → Wrote p rest m q k
+      → Wrote at all l q k
+  left-last h w = record { next = omega arith; now-is = w .now-is ∙ h .now-is }
+
+  -- what was written from the start of a buffer stands there
+  pub wrote-taken : {new l : List A} {p : ℕ} {m : List A} → length new ≤ length l → Wrote 0 new l p m → take (p - 0) m ≡ new
+  wrote-taken {new} {l} {p} {m} room w =
+      let e : p - 0 ≡ 0 + length new = omega arith in
+      rw (e, w .now-is) (take-overwrite 0 new l (omega arith))

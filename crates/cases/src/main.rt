@@ -5,10 +5,10 @@
 // - `#reports`: line reports, totals and the report buffer, as `report_cases` says;
 // - `#clauses`: two runs and clause lists, as `clause_cases` says;
 // - `#joins`: joining, as `join_cases` says;
-// - `#texts`: what the programs print, as `texts` says.
-mod texts;
+// - `#texts`: what the programs print, as `program_texts` says.
+mod program_texts;
 
-use crate::texts::run_text;
+use crate::program_texts::run_text;
 use case_text::parse::find;
 use libc::STDIN_FILENO;
 

@@ -1,7 +1,7 @@
 // Counts and lists as text.
 use case_text::print::print_number;
 use clause_sizes::Counts;
-use text::signs::magnitude;
+use literal_text::magnitude;
 
 // Both counts of a sheet.
 pub fn print_counts(counts: Counts) {

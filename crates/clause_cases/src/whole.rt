@@ -9,8 +9,8 @@ use clauses::CountsAnswer;
 use clauses::ListAnswer;
 use clauses::clause_counts;
 use clauses::line_list;
+use literal_text::magnitude;
 use std::num::wrapping_add_u64;
-use text::signs::magnitude;
 
 // The lines of the longest sheet, and the numbers of the longest list.
 const MOST_LINES: usize = 248;

@@ -129,3 +129,8 @@ module _ {t : Trail} (good : WellFormed t) where
       (every-getD (Names t) (numbers (concat (lineCount t) (lineClauses t)))
       (every-numbers (Names t) (omega arith) (concat (lineCount t) (lineClauses t))
       (every-in-concat (Names t) (lineCount t) (lineClauses t) names-line)))
+
+  pub line-names-variables : (k : ℕ) → k < lineCount t → NamesVariables t (lineList t k)
+  unfolding lineList
+  line-names-variables k h =
+      every-getD (Names t) (numbers (lineClauses t k)) (every-numbers (Names t) (omega arith) (lineClauses t k) (names-line k h))

@@ -1,72 +1,93 @@
-// A sheet's clauses as text: the header, then a line for each clause (DIMACS CNF).
-ghost use Prim.Native.Nat.{_≤_};
+// Of a sheet that was read: its clause file part by part, each part written where there is room for it (document 01, "The programs").
+ghost use mathlib.Core.Path.{_≡_};
+ghost use Prim.Native.Nat.{suc, _≤_, _<_};
+ghost use lib.ListN.{length};
+ghost use Rattle.buffers.specs.Overwrite.{Wrote};
 ghost use Rattle.sheet.specs.Facts.{SheetRead};
+ghost use Rattle.sheet.specs.Fields.{trailOf};
+ghost use Rattle.text_parts.specs.Parts.{partMeans, roomCall};
+ghost use Rattle.dimacs.specs.Text.{headerText};
+ghost use Rattle.dimacs.specs.Numbers.{numbersText, AllBelow};
+ghost use Rattle.clause_file.specs.Parts.{filePart};
+use clause_sizes::Counts;
 use clause_sizes::counting::both_counts;
-use line_clauses::put_line;
+use decimal::put_line;
+use literal_text::put_list;
 use sheet::Header;
-use text::stream::OUTPUT_BYTES;
-use text::stream::put_byte;
-use text::stream::put_number;
-use text::stream::put_signed;
-use text::stream::put_text;
+use text_parts::PartAnswer;
+use text_parts::put_part;
+
+// Enough for the header's line.
+const HEADER_BYTES: usize = 64;
 
 // The numbers of the longest list that a line has.
 const LIST_NUMBERS: usize = 4944;
 
-// The header and the clauses of a sheet that was read.
-pub fn put_clauses(out: &mut [u8; OUTPUT_BYTES], at: usize, sheet: &[u8], header: Header) -> usize
-    requires { ⌜ (at ≤ 8192) × SheetRead (now sheet) header ⌝ }
-    ensures { λ r. ⌜ r ≤ 8192 ⌝ }
+// The bytes of a number at most: a minus, five digits, and the blank behind them.
+const NUMBER_BYTES: usize = 7;
+
+// Enough for the clauses of any line.
+const CLAUSES_BYTES: usize = NUMBER_BYTES * LIST_NUMBERS;
+
+// Writes a part of the file: the header's line, or the clauses of line `part - 1`.
+pub fn write_part(sheet: &[u8], header: Header, part: usize, out: &mut [u8]) -> PartAnswer
+    requires { ⌜ SheetRead (now sheet) header × (part ≤ header .lines) ⌝ }
+    ensures { λ r. ⌜ (partMeans r ≡ roomCall (filePart (trailOf (now (sheet .entry))) part) (now (out .entry)) .answer)
+        × (now (out .exit) ≡ roomCall (filePart (trailOf (now (sheet .entry))) part) (now (out .entry)) .buffer) ⌝ }
 {
-    let headed = put_header(out, at, sheet, header);
-    put_lists(out, headed, sheet, header)
+    if part == 0 {
+        return write_header(sheet, header, out);
+    }
+    write_clauses(sheet, header, part - 1, out)
 }
 
-// The header of the clauses: `p cnf VARIABLES CLAUSES`, and the line's end.
-pub fn put_header(out: &mut [u8; OUTPUT_BYTES], at: usize, sheet: &[u8], header: Header) -> usize
-    requires { ⌜ (at ≤ 8192) × SheetRead (now sheet) header ⌝ }
-    ensures { λ r. ⌜ r ≤ 8192 ⌝ }
+// Writes the header's line.
+fn write_header(sheet: &[u8], header: Header, out: &mut [u8]) -> PartAnswer
+    requires { ⌜ SheetRead (now sheet) header ⌝ }
+    ensures { λ r. ⌜ (partMeans r ≡ roomCall (filePart (trailOf (now (sheet .entry))) 0) (now (out .entry)) .answer)
+        × (now (out .exit) ≡ roomCall (filePart (trailOf (now (sheet .entry))) 0) (now (out .entry)) .buffer) ⌝ }
 {
-    let counts = both_counts(sheet, header);
-    let variables = put_number(out, at, b"p cnf ", counts.variables as u64);
-    let clauses = put_number(out, variables, b" ", counts.clauses as u64);
-    put_byte(out, clauses, b'\n')
+    let mut text = [0u8; HEADER_BYTES];
+    let bytes = put_header(&mut text, both_counts(sheet, header));
+    put_part(out, &text[0..bytes])
 }
 
-// The lists of all lines, each written over the one before it.
-fn put_lists(out: &mut [u8; OUTPUT_BYTES], at: usize, sheet: &[u8], header: Header) -> usize
-    requires { ⌜ (at ≤ 8192) × SheetRead (now sheet) header ⌝ }
-    ensures { λ r. ⌜ r ≤ 8192 ⌝ }
+// Writes the header's line of two counts: `p cnf VARIABLES CLAUSES`.
+fn put_header(out: &mut [u8], counts: Counts) -> usize
+    requires { ⌜ length (headerText (counts .variables) (counts .clauses)) ≤ length (now out) ⌝ }
+    ensures { λ r. ⌜ Wrote 0 (headerText (counts .variables) (counts .clauses)) (now (out .entry)) r (now (out .exit)) ⌝ }
 {
-    let lines = header.lines;
+    put_line(
+        out,
+        0,
+        b"p cnf",
+        &[counts.variables as u64, counts.clauses as u64],
+    )
+}
+
+// Writes the clauses of line k.
+fn write_clauses(sheet: &[u8], header: Header, k: usize, out: &mut [u8]) -> PartAnswer
+    requires { ⌜ SheetRead (now sheet) header × (k < header .lines) ⌝ }
+    ensures { λ r. ⌜ (partMeans r ≡ roomCall (filePart (trailOf (now (sheet .entry))) (suc k)) (now (out .entry)) .answer)
+        × (now (out .exit) ≡ roomCall (filePart (trailOf (now (sheet .entry))) (suc k)) (now (out .entry)) .buffer) ⌝ }
+{
     let mut list = [0i32; LIST_NUMBERS];
-    let mut next = at;
-    for k in 0..lines {
-        let count = put_line(sheet, header, k, &mut list, 0);
-        next = put_list(out, next, &list[0..count]);
-    }
-    next
+    let count = line_clauses::put_line(sheet, header, k, &mut list, 0);
+    write_list(out, &list[0..count])
 }
 
-// The clauses of a list.
-fn put_list(out: &mut [u8; OUTPUT_BYTES], at: usize, list: &[i32]) -> usize
-    requires { ⌜ at ≤ 8192 ⌝ }
-    ensures { λ r. ⌜ r ≤ 8192 ⌝ }
+// Writes the clauses of a list. A buffer that is long enough whatever the numbers are is written at once; for a shorter one the text is
+// made aside first, so that its length is known before the first byte is written.
+fn write_list(out: &mut [u8], list: &[i32]) -> PartAnswer
+    requires { ⌜ AllBelow 100000 (now list) × (length (now list) ≤ 4944) ⌝ }
+    ensures { λ r. ⌜ (partMeans r ≡ roomCall (numbersText (now (list .entry))) (now (out .entry)) .answer)
+        × (now (out .exit) ≡ roomCall (numbersText (now (list .entry))) (now (out .entry)) .buffer) ⌝ }
 {
-    let mut next = at;
-    for i in 0..list.len() {
-        next = put_literal(out, next, list[i]);
+    if NUMBER_BYTES * list.len() <= out.len() {
+        let bytes = put_list(out, 0, list);
+        return PartAnswer::Written(bytes);
     }
-    next
-}
-
-// A literal and a blank, or the 0 that closes a clause and the line's end.
-fn put_literal(out: &mut [u8; OUTPUT_BYTES], at: usize, literal: i32) -> usize
-    requires { ⌜ at ≤ 8192 ⌝ }
-    ensures { λ r. ⌜ r ≤ 8192 ⌝ }
-{
-    if literal == 0 {
-        return put_text(out, at, b"0\n");
-    }
-    put_signed(out, at, literal, b' ')
+    let mut text = [0u8; CLAUSES_BYTES];
+    let bytes = put_list(&mut text, 0, list);
+    put_part(out, &text[0..bytes])
 }

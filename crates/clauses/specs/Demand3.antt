@@ -2,8 +2,8 @@
 use Prim.Native.Nat.{ℕ, _≤_, _<_}
 use mathlib.Core.Path.{_≡_}
 use mathlib.Core.Bool.{Bool, true, false}
-use mathlib.Core.List.{List, []}
-use lib.ListN.{length, take}
+use mathlib.Core.List.{List}
+use lib.ListN.{length}
 use lib.IntN.{ℤ}
 use Rattle.words.specs.Below.{concat}
 use Rattle.trail.specs.Trail.{Trail, lineCount}
@@ -12,21 +12,11 @@ use Rattle.cnf.specs.Formulas.{variable, clausesOf, satisfies}
 use Rattle.clause_lists.specs.Lists.{lineList, clauseCount}
 use Rattle.clause_lists.specs.Limits.{WithinLimits}
 use Rattle.clause_lists.specs.Pairing.{IsAssignment, SatisfiedExactly, MapsInverse, EquallyMany, NamesVariables, NamesLast, EndsInZero}
-use Rattle.sheet.specs.Asking.{Verdict}
-use Rattle.sheet.specs.Asking.Verdict.{accepted, refused}
 use Rattle.sheet.specs.Fields.{trailOf}
 use Rattle.sheet.specs.Questions.{IsAccepted}
-use Rattle.answers.specs.Calls.{Call}
+use Rattle.answers.specs.Calls.{written}
 use Rattle.sheet_reports.specs.Lines.{lineReport}
 use Rattle.clauses.specs.Answers.{listCall}
-
--- what a call wrote: as many numbers from the buffer's start as its answer says
-abbrev pub writtenAs : Verdict ℕ → List ℤ → List ℤ
-writtenAs (accepted n) buffer = take n buffer
-writtenAs (refused number place) buffer = []
-
-abbrev pub written : Call ℤ → List ℤ
-written c = writtenAs (c .answer) (c .buffer)
 
 -- The joined list is what the call for one line's list, lent a buffer long enough for each answer, writes for lines 0 to L - 1, in
 -- that order, from the one sheet: `buffers k` is the buffer that was lent for line k.

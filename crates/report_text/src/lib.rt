@@ -1,97 +1,100 @@
-// A sheet's report as text: a line for each line of the sheet, with the numbers of the report buffer, then the totals.
+// Of a sheet that was read: its report as text, part by part (document 01, "The programs").
+ghost use mathlib.Core.Path.{_≡_};
+ghost use mathlib.Core.List.{[], _∷_, _++_};
 ghost use Prim.Native.Nat.{_+_, _≤_};
 ghost use lib.ListN.{length};
+ghost use Rattle.buffers.specs.Overwrite.{Wrote};
+ghost use Rattle.decimal.specs.Decimal.{behind};
 ghost use Rattle.sheet.specs.Facts.{SheetRead};
-ghost use Rattle.report_buffer.specs.Buffer.{reportSize};
-use buffers::byte_at;
-use buffers::u16_at;
-use buffers::u32_at;
-use report_buffer::REPORT_BYTES;
-use report_buffer::put_reports;
+ghost use Rattle.sheet.specs.Fields.{trailOf};
+ghost use Rattle.differential.specs.Report.{reportMeans};
+ghost use Rattle.sheet_reports.specs.Totals.{SmallReport, sumsOf};
+ghost use Rattle.text_parts.specs.Parts.{partMeans, roomCall};
+ghost use Rattle.report_file.specs.Text.{lineText, totalsText};
+ghost use Rattle.report_file.specs.Parts.{reportPart, mostBytes};
+use decimal::put_decimal;
+use decimal::put_line;
+use differential::LineReport;
 use sheet::Header;
 use sheet_reports::Totals;
+use sheet_reports::report_at;
 use sheet_reports::sum_reports;
-use text::stream::OUTPUT_BYTES;
-use text::stream::put_byte;
-use text::stream::put_decimal;
-use text::stream::put_number;
-use text::stream::put_text;
+use text_parts::PartAnswer;
+use text_parts::put_part;
+use units::in_sixteenths;
 
-// The reports of 248 lines, the most that a sheet has.
-const BUFFER_BYTES: usize = 3968;
+// Enough for any part.
+const PART_BYTES: usize = 64;
 
-// The report of a sheet that was read.
-pub fn put_report(out: &mut [u8; OUTPUT_BYTES], at: usize, sheet: &[u8], header: Header) -> usize
-    requires { ⌜ (at ≤ 8192) × SheetRead (now sheet) header ⌝ }
-    ensures { λ r. ⌜ r ≤ 8192 ⌝ }
+// Writes a part of the report where there is room for it. The part is made aside, in as many bytes as no part passes.
+pub fn write_part(sheet: &[u8], header: Header, part: usize, out: &mut [u8]) -> PartAnswer
+    requires { ⌜ SheetRead (now sheet) header × (part ≤ header .lines) ⌝ }
+    ensures { λ r. ⌜ (partMeans r ≡ roomCall (reportPart (trailOf (now (sheet .entry))) part) (now (out .entry)) .answer)
+        × (now (out .exit) ≡ roomCall (reportPart (trailOf (now (sheet .entry))) part) (now (out .entry)) .buffer) ⌝ }
 {
-    let listed = put_lines(out, at, sheet, header);
-    put_totals(out, listed, sum_reports(sheet, header))
+    let mut text = [0u8; PART_BYTES];
+    let bytes = put_report_part(sheet, header, part, &mut text);
+    put_part(out, &text[0..bytes])
 }
 
-// The lines of a sheet, by way of the report buffer.
-fn put_lines(out: &mut [u8; OUTPUT_BYTES], at: usize, sheet: &[u8], header: Header) -> usize
-    requires { ⌜ (at ≤ 8192) × SheetRead (now sheet) header ⌝ }
-    ensures { λ r. ⌜ r ≤ 8192 ⌝ }
+// Writes a part of the report from the buffer's start: line `part`, or behind the last line the totals.
+fn put_report_part(sheet: &[u8], header: Header, part: usize, out: &mut [u8]) -> usize
+    requires { ⌜ SheetRead (now sheet) header × (part ≤ header .lines) × (mostBytes ≤ length (now out)) ⌝ }
+    ensures { λ r. ⌜ Wrote 0 (reportPart (trailOf (now (sheet .entry))) part) (now (out .entry)) r (now (out .exit)) ⌝ }
 {
-    let mut reports = [0u8; BUFFER_BYTES];
-    let bytes = put_reports(sheet, header, &mut reports);
-    put_buffer(out, at, &reports[0..bytes])
-}
-
-// The lines of a report buffer, each after its number.
-fn put_buffer(out: &mut [u8; OUTPUT_BYTES], at: usize, reports: &[u8]) -> usize
-    requires { ⌜ at ≤ 8192 ⌝ }
-    ensures { λ r. ⌜ r ≤ 8192 ⌝ }
-{
-    let mut next = at;
-    for k in 0..reports.len() / REPORT_BYTES {
-        let numbered = put_decimal(out, next, k as u64);
-        next = put_fields(out, numbered, reports, REPORT_BYTES * k);
+    if part < header.lines {
+        return put_report(out, part, report_at(sheet, header, part));
     }
-    next
+    put_totals(out, sum_reports(sheet, header))
 }
 
-// The report whose fields start at a position of the buffer: ` NAME WEIGHT CHAINS N`, and the line's end.
-fn put_fields(out: &mut [u8; OUTPUT_BYTES], at: usize, reports: &[u8], from: usize) -> usize
-    requires { ⌜ (at ≤ 8192) × (from + reportSize ≤ length (now reports)) ⌝ }
-    ensures { λ r. ⌜ r ≤ 8192 ⌝ }
+// Writes the line of a report: its number and name, its weight in sixteenths, its chains and N.
+fn put_report(out: &mut [u8], k: usize, report: LineReport) -> usize
+    requires { ⌜ (length (lineText k (reportMeans report)) ≤ length (now out)) × SmallReport (reportMeans report) ⌝ }
+    ensures { λ r. ⌜ Wrote 0 (lineText k (reportMeans report)) (now (out .entry)) r (now (out .exit)) ⌝ }
 {
-    let named = put_name(out, at, byte_at(reports, from));
-    let weight = put_number(out, named, b" ", u32_at(reports, from + 4) as u64);
-    let chains = put_number(out, weight, b" ", u16_at(reports, from + 2) as u64);
-    let fitting = put_number(out, chains, b" ", u64_at(reports, from + 8));
-    put_byte(out, fitting, b'\n')
-}
-
-// The name of a report, by its number.
-fn put_name(out: &mut [u8; OUTPUT_BYTES], at: usize, number: u32) -> usize
-    requires { ⌜ at ≤ 8192 ⌝ }
-    ensures { λ r. ⌜ r ≤ 8192 ⌝ }
-{
-    match number {
-        0 => put_text(out, at, b" impossible"),
-        1 => put_text(out, at, b" certain"),
-        2 => put_text(out, at, b" halves"),
-        _ => put_text(out, at, b" counted"),
+    let named = put_decimal(out, 0, k as u64);
+    match report {
+        LineReport::Impossible => put_fields(out, named, b" impossible", 0, 0, 0),
+        LineReport::Certain => put_fields(out, named, b" certain", 0, 0, 0),
+        LineReport::Halves(bits) => {
+            let weight = in_sixteenths(bits);
+            put_fields(out, named, b" halves", weight.0, 0, 0)
+        }
+        LineReport::Counted(weight, chains, fitting) => {
+            put_fields(out, named, b" counted", weight.0, chains, fitting.0)
+        }
     }
 }
 
-// The number of 64 bits at a position.
-fn u64_at(s: &[u8], at: usize) -> u64
-    requires { ⌜ at + 8 ≤ length (now s) ⌝ }
+// Writes a report's name with the blank before it, then its weight in sixteenths, its chains and N.
+fn put_fields(
+    out: &mut [u8],
+    at: usize,
+    name: &[u8],
+    weight: u32,
+    chains: u32,
+    fitting: u64,
+) -> usize
+    requires { ⌜ at + length (now name ++ behind (weight ∷ chains ∷ fitting ∷ [])) ≤ length (now out) ⌝ }
+    ensures { λ r. ⌜ Wrote at (now (name .entry) ++ behind (weight ∷ chains ∷ fitting ∷ [])) (now (out .entry)) r (now (out .exit)) ⌝ }
 {
-    u32_at(s, at) as u64 + 4294967296 * u32_at(s, at + 4) as u64
+    put_line(out, at, name, &[weight as u64, chains as u64, fitting])
 }
 
-// `total IMPOSSIBLE WEIGHT CHAINS`, and the line's end.
-fn put_totals(out: &mut [u8; OUTPUT_BYTES], at: usize, totals: Totals) -> usize
-    requires { ⌜ at ≤ 8192 ⌝ }
-    ensures { λ r. ⌜ r ≤ 8192 ⌝ }
+// Writes the totals: the impossible lines, the weight in sixteenths and the chains.
+fn put_totals(out: &mut [u8], totals: Totals) -> usize
+    requires { ⌜ length (totalsText (sumsOf totals)) ≤ length (now out) ⌝ }
+    ensures { λ r. ⌜ Wrote 0 (totalsText (sumsOf totals)) (now (out .entry)) r (now (out .exit)) ⌝ }
 {
-    let cost = totals.weight;
-    let impossible = put_number(out, at, b"total ", totals.impossible as u64);
-    let weight = put_number(out, impossible, b" ", cost.0 as u64);
-    let chains = put_number(out, weight, b" ", totals.chains as u64);
-    put_byte(out, chains, b'\n')
+    put_line(
+        out,
+        0,
+        b"total",
+        &[
+            totals.impossible as u64,
+            totals.weight.0 as u64,
+            totals.chains as u64,
+        ],
+    )
 }

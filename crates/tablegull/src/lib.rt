@@ -12,6 +12,8 @@ ghost use Rattle.report_c.specs.Calls.{lineReportCall, totalsCall};
 ghost use Rattle.runs_c.specs.Calls.{outcomeCall};
 ghost use Rattle.clauses.specs.Answers.{listCall};
 ghost use Rattle.clauses_c.specs.Calls.{countsCall};
+ghost use Rattle.clause_file.specs.Parts.{clauseTextCall};
+ghost use Rattle.report_file.specs.Parts.{reportTextCall};
 ghost use Rattle.joining.specs.Answers.{joinCall};
 use answers::Answer;
 use clauses_c::clause_counts;
@@ -23,6 +25,8 @@ use report_c::reports;
 use report_c::totals;
 use runs_c::two_runs;
 use sealing_c::seal;
+use texts_c::clause_text;
+use texts_c::report_text;
 
 // Asks all questions of a sheet. Counts its lines.
 #[no_mangle]
@@ -93,6 +97,24 @@ pub extern "C" fn tablegull_line_clauses(sheet: &[u8], line: u64, out: &mut [i32
         × (now (out .exit) ≡ listCall (now (sheet .entry)) line (now (out .entry)) .buffer) ⌝ }
 {
     line_clauses(sheet, line, out)
+}
+
+// Writes a part of the clause file: part 0 is the header's line, part 1 + k the clauses of line k. Counts bytes.
+#[no_mangle]
+pub extern "C" fn tablegull_clause_text(sheet: &[u8], part: u64, out: &mut [u8]) -> Answer
+    ensures { λ r. ⌜ (r ≡ answerOf (clauseTextCall (now (sheet .entry)) part (now (out .entry)) .answer))
+        × (now (out .exit) ≡ clauseTextCall (now (sheet .entry)) part (now (out .entry)) .buffer) ⌝ }
+{
+    clause_text(sheet, part, out)
+}
+
+// Writes a part of the report's text: part k is line k's line, part L the totals. Counts bytes.
+#[no_mangle]
+pub extern "C" fn tablegull_report_text(sheet: &[u8], part: u64, out: &mut [u8]) -> Answer
+    ensures { λ r. ⌜ (r ≡ answerOf (reportTextCall (now (sheet .entry)) part (now (out .entry)) .answer))
+        × (now (out .exit) ≡ reportTextCall (now (sheet .entry)) part (now (out .entry)) .buffer) ⌝ }
+{
+    report_text(sheet, part, out)
 }
 
 // Writes the joined sheet of two. Counts bytes.

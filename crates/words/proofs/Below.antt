@@ -1,7 +1,7 @@
 -- Laws of tests, counts, sums and lists over the numbers below a bound.
 use mathlib.Core.Path.{_≡_, refl, sym, ap, ap₂, subst, _∙_}
 use mathlib.Core.Bool.{Bool, true, false, _&&_, _||_, cond, and-assoc, and-eq-true-iff, and-true, or-false, or-true, or-assoc, true≢false}
-use mathlib.Core.List.{List, [], _∷_, _++_, map}
+use mathlib.Core.List.{List, [], _∷_, _++_, map, append-nil, append-assoc}
 use Prim.Native.Nat.{ℕ, zero, suc, _+_, _-_, _*_, _/_, _%_, _≤_, _<_}
 use native.Mathlib.Decide.{decLt}
 use native.Mathlib.Nat.{add-zero, mul-add, mul-zero, suc-mul, zero-mul}
@@ -283,6 +283,13 @@ module _ {A : Type 0} where
   pub concat-cong : (b : ℕ) (f g : ℕ → List A) → ((k : ℕ) → k < b → f k ≡ g k) → concat b f ≡ concat b g
   unfolding concat
   concat-cong = step-cong concat _++_ (λ f g. refl) (λ b f. refl)
+
+  -- the first of the lists, and those behind it
+  pub concat-first : (b : ℕ) (f : ℕ → List A) → concat (suc b) f ≡ f zero ++ concat b (λ k. f (suc k))
+  unfolding concat
+  concat-first zero f = sym (append-nil (f zero))
+  concat-first (suc b) f =
+      ap (λ (l : List A). l ++ f (suc b)) (concat-first b f) ∙ append-assoc (f zero) (concat b (λ k. f (suc k))) (f (suc b))
 
   pub length-concat : (b : ℕ) (f : ℕ → List A) → length (concat b f) ≡ total b (λ k. length (f k))
   unfolding concat total

@@ -9,17 +9,24 @@
 //! and the archive's fastest round divided by the reference's fastest, which a
 //! busy machine disturbs least.
 //!
+//! Clause text by parts is the archive's own text of each part, written into one
+//! lent buffer; beside it the reference's lists go through this package's fast
+//! writer of text, as the archive's do in the rows by calls.
+//!
 //! Below stand the times of totals measured by the report of the same sheet,
 //! medians over the rounds again, and how long the archive may take at most.
 
 use std::fs::{File, OpenOptions};
 use std::hint::black_box;
+use std::io;
 use std::time::{Duration, Instant};
 
 use tablegull::builder::{Line, SheetBuilder};
 use tablegull::reference::{self, Sheet};
 use tablegull::text::TextWriter;
-use tablegull::{Refusal, LINE_REPORT, MAX_LINES, MAX_LINE_CLAUSES, MAX_SHEET};
+use tablegull::{
+    Refusal, LINE_REPORT, MAX_CLAUSE_TEXT, MAX_LINES, MAX_LINE_CLAUSES, MAX_REPORT_TEXT, MAX_SHEET,
+};
 
 /// Rounds of what takes microseconds. What takes milliseconds has one round in
 /// so many of these.
@@ -61,6 +68,9 @@ fn main() {
         Case::new("clause text by calls, mixed", text_by_calls(&mixed)),
         Case::new("clause text by calls, kind 5", text_by_calls(&additions)),
         Case::of_reference("the same, sheet read once", text_of_one_reading(&additions)),
+        Case::new("clause text by parts, mixed", clause_text(&mixed)),
+        Case::new("clause text by parts, kind 5", clause_text(&additions)),
+        Case::new("report text by parts, mixed", report_text(&mixed)),
     ];
     for round in 0..ROUNDS {
         for case in &mut cases {
@@ -74,7 +84,7 @@ fn main() {
     }
     println!("n = 32, m = 8, L = {MAX_LINES}; times of one call");
     let long_rounds = ROUNDS / ROUNDS_TO_A_LONG_ONE;
-    println!("{ROUNDS} rounds, of the clause texts {long_rounds}");
+    println!("{ROUNDS} rounds, of the texts {long_rounds}");
     if ARCHIVE.is_none() {
         println!("libtablegull.a was not found: THE REFERENCE IS TIMED ALONE");
     }
@@ -119,13 +129,19 @@ type Outcome = Result<usize, Refusal>;
 
 type Join = fn(&[u8], &[u8], &[u64], &mut [u8]) -> Outcome;
 
+type TextPart = fn(&[u8], usize, &mut [u8]) -> Outcome;
+
 /// The calls that are timed, the archive's or the reference's.
 #[derive(Clone, Copy)]
 struct Calls {
     read: fn(&[u8]) -> Outcome,
     report: fn(&[u8], &mut [u8]) -> Outcome,
     totals: fn(&[u8], &mut [u64]) -> Outcome,
+    clause_counts: fn(&[u8], &mut [u64]) -> Outcome,
     line_clauses: fn(&[u8], usize, &mut [i32]) -> Outcome,
+    /// None where the lists go through the fast writer of text instead.
+    clause_text_part: Option<TextPart>,
+    report_text_part: TextPart,
     join: Join,
 }
 
@@ -133,7 +149,10 @@ const REFERENCE: Calls = Calls {
     read: reference::read,
     report: reference::report,
     totals: reference::totals,
+    clause_counts: reference::clause_counts,
     line_clauses: reference::line_clauses,
+    clause_text_part: None,
+    report_text_part: reference::report_text_part,
     join: reference::join,
 };
 
@@ -142,7 +161,10 @@ const ARCHIVE: Option<Calls> = Some(Calls {
     read: tablegull::slices::read,
     report: tablegull::slices::report,
     totals: tablegull::slices::totals,
+    clause_counts: tablegull::slices::clause_counts,
     line_clauses: tablegull::slices::line_clauses,
+    clause_text_part: Some(tablegull::slices::clause_text_part),
+    report_text_part: tablegull::slices::report_text_part,
     join: tablegull::slices::join,
 });
 
@@ -217,6 +239,48 @@ fn text_of_one_reading(sheet: &[u8]) -> impl FnMut(Calls) + '_ {
             text.clauses(list).expect("/dev/null takes all");
         }
         text.flush().expect("/dev/null takes all");
+    }
+}
+
+/// A whole sheet's clause text, header and all, in memory: one call for each part,
+/// or one for the counts and each line's list. Nothing takes the text up, so that
+/// making it is all that is timed.
+fn clause_text(sheet: &[u8]) -> impl FnMut(Calls) + '_ {
+    let mut text = TextWriter::new(io::sink());
+    let mut out = [0; MAX_CLAUSE_TEXT];
+    let mut list = [0; MAX_LINE_CLAUSES];
+    let mut counts = [0; 2];
+    move |calls| {
+        if let Some(text_part) = calls.clause_text_part {
+            write_parts(calls, sheet, text_part, &mut out);
+            return;
+        }
+        let lines = (calls.read)(black_box(sheet)).expect("accepted");
+        (calls.clause_counts)(sheet, &mut counts).expect("accepted");
+        let [variables, clauses] = counts;
+        text.text("p cnf ").expect("a sink takes all");
+        text.number(variables, b' ').expect("a sink takes all");
+        text.number(clauses, b'\n').expect("a sink takes all");
+        for line in 0..lines {
+            let length = (calls.line_clauses)(sheet, line, &mut list).expect("accepted");
+            text.clauses(&list[..length]).expect("a sink takes all");
+        }
+        text.flush().expect("a sink takes all");
+    }
+}
+
+/// A whole sheet's report as text, one call for each part.
+fn report_text(sheet: &[u8]) -> impl FnMut(Calls) + '_ {
+    let mut out = [0; MAX_REPORT_TEXT];
+    move |calls| write_parts(calls, sheet, calls.report_text_part, &mut out)
+}
+
+/// Parts 0 to L of a text, each written over the one before it.
+fn write_parts(calls: Calls, sheet: &[u8], text_part: TextPart, out: &mut [u8]) {
+    let lines = (calls.read)(black_box(sheet)).expect("accepted");
+    for part in 0..=lines {
+        text_part(sheet, part, out).expect("accepted");
+        black_box(&out);
     }
 }
 

@@ -13,6 +13,7 @@ mod joining;
 mod line_report;
 mod runs;
 mod sheet;
+mod texts;
 
 pub use clauses::ClauseCounts;
 pub use line_report::{LineReport, Sixteenths, Totals, WholeBits};
@@ -105,6 +106,22 @@ pub fn line_clauses(sheet: &[u8], line: usize, out: &mut [i32]) -> Result<usize,
     Ok(need)
 }
 
+/// Writes one part of the clause file: part 0 is the header's line, part 1 + k
+/// has the clauses of line k. Answers the number of bytes written.
+pub fn clause_text_part(sheet: &[u8], part: usize, out: &mut [u8]) -> Result<usize, Refusal> {
+    let sheet = Sheet::read(sheet)?;
+    ask_part(&sheet, part)?;
+    write_text(&sheet.clause_text_part(part), out)
+}
+
+/// Writes one part of the report as text: part k is line k's line, part L has
+/// the totals. Answers the number of bytes written.
+pub fn report_text_part(sheet: &[u8], part: usize, out: &mut [u8]) -> Result<usize, Refusal> {
+    let sheet = Sheet::read(sheet)?;
+    ask_part(&sheet, part)?;
+    write_text(&sheet.report_text_part(part), out)
+}
+
 /// Writes the joined sheet: the first's inputs and lines, then the second's
 /// lines with operands renumbered. `names` has for each input of the second the
 /// word of the first that it is. Answers the number of bytes written.
@@ -115,6 +132,17 @@ pub fn join(first: &[u8], second: &[u8], names: &[u64], out: &mut [u8]) -> Resul
 /// Is the line number below L? 17
 fn ask_line(sheet: &Sheet, line: usize) -> Result<(), Refusal> {
     refuse_unless(line < sheet.line_count(), 17, 0)
+}
+
+/// Is the part of a text at most L? 17
+fn ask_part(sheet: &Sheet, part: usize) -> Result<(), Refusal> {
+    refuse_unless(part <= sheet.line_count(), 17, 0)
+}
+
+fn write_text(text: &str, out: &mut [u8]) -> Result<usize, Refusal> {
+    let out = ask_room(out, text.len())?;
+    out.copy_from_slice(text.as_bytes());
+    Ok(text.len())
 }
 
 /// Is the output buffer long enough for this very answer? 18

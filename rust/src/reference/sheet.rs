@@ -184,9 +184,6 @@ impl<'a> Sheet<'a> {
     }
 
     /// Questions 9 to 15 about one line, and in sealing 23.
-    // Told to keep it in the loop over the lines: as there are two of it, the
-    // compiler does not by itself, and reading takes a third longer then.
-    #[inline]
     fn ask_line<const SEALING: bool>(&self, record: &Record, line: usize) -> Result<(), Refusal> {
         let made = self.inputs + line;
         let earlier = |word: u16| usize::from(word) < made;
@@ -214,9 +211,13 @@ impl<'a> Sheet<'a> {
     }
 
     fn ask_lines<const SEALING: bool>(&self) -> Result<(), Refusal> {
-        self.records()
-            .enumerate()
-            .try_for_each(|(line, record)| self.ask_line::<SEALING>(&record, line))
+        // A plain loop: the compiler keeps the questions in it. With an iterator's
+        // `try_for_each` that hangs on what else the package has, and where it does
+        // not, reading takes half as long again.
+        for (line, record) in self.records().enumerate() {
+            self.ask_line::<SEALING>(&record, line)?;
+        }
+        Ok(())
     }
 
     /// Are records past L and the 12 bytes zero in every line block? 16

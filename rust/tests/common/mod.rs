@@ -7,6 +7,9 @@
 pub mod damage;
 pub mod pairs;
 pub mod sealing;
+pub mod texts;
+
+use std::path::Path;
 
 use tablegull::builder::{Line, SheetBuilder};
 use tablegull::{reference, Refusal};
@@ -15,7 +18,7 @@ pub type Outcome = Result<usize, Refusal>;
 
 type Join = fn(&[u8], &[u8], &[u64], &mut [u8]) -> Outcome;
 
-/// The nine calls of one implementation.
+/// The eleven calls of one implementation.
 #[derive(Clone, Copy)]
 pub struct Calls {
     pub name: &'static str,
@@ -27,6 +30,8 @@ pub struct Calls {
     pub two_runs: fn(&[u8], &[u64], &mut [u64]) -> Outcome,
     pub clause_counts: fn(&[u8], &mut [u64]) -> Outcome,
     pub line_clauses: fn(&[u8], usize, &mut [i32]) -> Outcome,
+    pub clause_text_part: fn(&[u8], usize, &mut [u8]) -> Outcome,
+    pub report_text_part: fn(&[u8], usize, &mut [u8]) -> Outcome,
     pub join: Join,
 }
 
@@ -40,6 +45,8 @@ pub const REFERENCE: Calls = Calls {
     two_runs: reference::two_runs,
     clause_counts: reference::clause_counts,
     line_clauses: reference::line_clauses,
+    clause_text_part: reference::clause_text_part,
+    report_text_part: reference::report_text_part,
     join: reference::join,
 };
 
@@ -54,6 +61,8 @@ pub const ARCHIVE: Calls = Calls {
     two_runs: tablegull::slices::two_runs,
     clause_counts: tablegull::slices::clause_counts,
     line_clauses: tablegull::slices::line_clauses,
+    clause_text_part: tablegull::slices::clause_text_part,
+    report_text_part: tablegull::slices::report_text_part,
     join: tablegull::slices::join,
 };
 
@@ -128,6 +137,13 @@ impl Calls {
         let mut out = vec![0; 16 * 248];
         let length = (self.report)(sheet, &mut out).unwrap();
         out[..length].chunks(16).map(Report::parse).collect()
+    }
+
+    /// The report of one line of an accepted sheet.
+    pub fn report_of(&self, sheet: &[u8], line: usize) -> Report {
+        let mut out = [0; 16];
+        assert_eq!((self.line_report)(sheet, line, &mut out), Ok(16));
+        Report::parse(&out)
     }
 
     /// Whether two runs of an accepted sheet follow, and where they do not.
@@ -569,9 +585,37 @@ pub fn disturb(random: &mut Random, program: &mut Program) {
     }
 }
 
+/// Writes a sheet to a file if a test on it fails, to look into it.
+pub struct KeptOnFailure<'a>(pub &'a [u8]);
+
+impl Drop for KeptOnFailure<'_> {
+    fn drop(&mut self) {
+        if std::thread::panicking() {
+            let thread = std::thread::current();
+            let test = thread.name().and_then(|name| name.split("::").last());
+            let name = format!("failed-{}.sheet", test.unwrap_or("test"));
+            let path = Path::new(env!("CARGO_TARGET_TMPDIR")).join(name);
+            if std::fs::write(&path, self.0).is_ok() {
+                eprintln!("the sheet is in {}", path.display());
+            }
+        }
+    }
+}
+
 /// Where a line's record starts.
 pub fn record(line: usize) -> usize {
     512 * (1 + line / 31) + 16 * (line % 31)
+}
+
+/// Document 01's example sheet, byte by byte.
+pub fn example() -> Vec<u8> {
+    let mut bytes = vec![0; 1024];
+    bytes[..9].copy_from_slice(&[0x41, 0x52, 0x58, 0x54, 2, 1, 1, 0, 1]);
+    bytes[508..512].copy_from_slice(&[0x44, 0x53, 0x59, 0x54]);
+    bytes[512] = 6;
+    bytes[520..528].copy_from_slice(&[1, 0, 0, 0, 3, 0, 0, 0]);
+    bytes[1020..].copy_from_slice(&[0x0b, 0, 0, 0]);
+    bytes
 }
 
 /// The sheet of these lines with right checks, whether or not it can be sealed.

@@ -1,0 +1,4 @@
+pub mod Parts
+pub mod Written
+pub mod Demand3
+pub mod Example

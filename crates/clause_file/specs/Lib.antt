@@ -1,0 +1,3 @@
+pub mod File
+pub mod Parts
+pub mod Demand3

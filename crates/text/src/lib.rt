@@ -1,3 +1,0 @@
-// Text for programs: words and numbers gathered for standard output.
-pub mod signs;
-pub mod stream;

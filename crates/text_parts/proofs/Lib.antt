@@ -1,0 +1,3 @@
+pub mod Rooms
+pub mod Calls
+pub mod Accepted
