@@ -100,7 +100,7 @@ extern "C" {
  * The archive does not tell its version: take header and archive from the same
  * sources.
  */
-#define TABLEGULL_VERSION "0.7.0"
+#define TABLEGULL_VERSION "0.7.1"
 
 /* Lengths that are always enough. */
 #define TABLEGULL_MAX_SHEET 4608        /* bytes of a sheet                    */

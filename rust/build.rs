@@ -16,6 +16,8 @@ fn main() {
     println!("cargo:rerun-if-env-changed=TABLEGULL_LIB");
     println!("cargo:rustc-check-cfg=cfg(has_archive)");
 
+    find_programs();
+
     let named = env::var_os("TABLEGULL_LIB").map(PathBuf::from);
     let folder = named.clone().unwrap_or_else(default_folder);
     let archive = folder.join(ARCHIVE);
@@ -45,8 +47,28 @@ fn main() {
 }
 
 fn default_folder() -> PathBuf {
+    in_target("staticlib")
+}
+
+fn in_target(folder: &str) -> PathBuf {
     let package = env::var_os("CARGO_MANIFEST_DIR").expect("cargo names the package's folder");
-    Path::new(&package).join("../target/staticlib")
+    Path::new(&package).join("../target").join(folder)
+}
+
+/// Sets the cfg `has_programs` where one of the proved programs is there, which the
+/// tests run: in the folder that `TABLEGULL_BIN` names or else in `../target/bin`.
+fn find_programs() {
+    println!("cargo:rerun-if-env-changed=TABLEGULL_BIN");
+    println!("cargo:rustc-check-cfg=cfg(has_programs)");
+    let named = env::var_os("TABLEGULL_BIN").map(PathBuf::from);
+    let folder = named.unwrap_or_else(|| in_target("bin"));
+    let programs = ["trail_report", "trail_clauses"].map(|name| folder.join(name));
+    for program in &programs {
+        println!("cargo:rerun-if-changed={}", program.display());
+    }
+    if programs.iter().any(|program| program.is_file()) {
+        println!("cargo:rustc-cfg=has_programs");
+    }
 }
 
 fn link(folder: &Path) {

@@ -1,5 +1,5 @@
-"""The cases of joining that crates/join_cases runs, and the answers that it has to give. Both come from this file and from
-oracle/trail.py, an independent reading of documents 01 and 02, alone. What follows a joined trail, and the reports of its lines,
+"""The cases of joining that crates/join_cases runs, and the answers that it has to give. Both come from this file, the
+sheets of examples/ and oracle/trail.py, an independent reading of documents 01 and 02. What follows a joined trail, and the reports of its lines,
 are worked out from the two sheets that are joined or from a sheet of the whole, never from the joined one.
 
 A case is a line `NAME: SHEET + SHEET; COUNT WORD WORD .. LENGTH`: two sheets, each given sealed as `LENGTH OFFSET=VALUE ..`,

@@ -1,7 +1,7 @@
 """What the two programs are run on, and what they have to print: stdin and stdout of the crates trail_report and
 trail_clauses, a sheet of 248 lines each; and the cases of the same texts of several sheets, which crates/cases runs, with the
-sheets in its folder data. All of it comes from documents 01 and 02, from this file and from oracle/trail.py, an independent
-reading of the documents.
+sheets in its folder data. All of it comes from documents 01 and 02, from this file, the sheets of examples/ and
+oracle/trail.py, an independent reading of the documents.
 
 A case is a line `TEXT FILE`: the text that is printed, and the file of the sheet. The texts are `report`, `clauses`, and
 `header`, which is the first line of the clauses; and `digest`, a checksum of all parts of the clauses.

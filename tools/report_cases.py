@@ -11,7 +11,9 @@ A case is a line `NAME: NUMBERS`, by the name's first word one of
   fitting operand values, and whether the two agree;
 - `sheet` and `unsealed`: LENGTH OFFSET=VALUE .., a sheet whose other bytes are 0, sealed by the program or left as it is.
   Answered by the reports of its lines and of the line number after the last, its totals, and the report buffer at a length
-  one byte short, just right, and five bytes longer than is needed. The buffer's bytes are A5 before.
+  one byte short, just right, and five bytes longer than is needed. The buffer's bytes are A5 before;
+- `claim`: KIND WIDTH REPORT WEIGHT CHAINS N COUNT, a report by its numbers (halves with whole bits) and a count of operand
+  values. Answered by whether the report says what the count says: some do not.
 """
 from collections import Counter
 
@@ -382,9 +384,57 @@ def self_xors():
     add_unsealed("with right checks, of words XOR themselves", sheet.pack(), "certain 0 0 0")
 
 
+# The comparison itself. All reports above are right, so a comparison that says so of every report would not show in them.
+
+# Kind, width, report's number, weight (of halves in whole bits), chains, N, and the count: whether they agree, by hand.
+CLAIMS = {
+    "impossible": {(5, 4, 0, 0, 0, 0, 0): True, (5, 4, 0, 0, 0, 0, 1): False, (5, 4, 0, 0, 0, 0, 256): False,
+                   (6, 4, 0, 0, 0, 0, 1): False, (1, 4, 0, 0, 0, 0, 256): False},
+    "certain": {(1, 4, 1, 0, 0, 0, 256): True, (1, 4, 1, 0, 0, 0, 255): False, (1, 4, 1, 0, 0, 0, 16): False,
+                **{(kind, 4, 1, 0, 0, 0, 16): True for kind in (2, 3, 4, 7, 8)},
+                **{(kind, 4, 1, 0, 0, 0, count): False for kind in (2, 3, 4, 7, 8) for count in (0, 15, 17)},
+                (5, 4, 1, 0, 0, 0, 256): False, (6, 4, 1, 0, 0, 0, 16): False, (9, 4, 1, 0, 0, 0, 256): False},
+    "halves": {(5, 4, 2, 0, 0, 0, 256): True, (9, 4, 2, 0, 0, 0, 256): True, (5, 4, 2, 3, 0, 0, 32): True,
+               (9, 4, 2, 3, 0, 0, 32): True, (5, 4, 2, 8, 0, 0, 1): True, (5, 4, 2, 9, 0, 0, 0): False,
+               **{(5, 4, 2, 3, 0, 0, count): False for count in (0, 31, 33, 16, 64)},
+               (1, 4, 2, 0, 0, 0, 256): False, (6, 4, 2, 1, 0, 0, 8): False, (3, 4, 2, 0, 0, 0, 16): False},
+    # 16 log2(12) is between 57 and 58, and 64 - w to 64 - w + 3c has to hold it.
+    "counted": {**{(6, 4, 3, w, 1, 12, 12): w in (7, 8, 9) for w in range(5, 12)},
+                (6, 4, 3, 7, 0, 12, 12): False, (6, 4, 3, 12, 2, 12, 12): True, (6, 4, 3, 13, 2, 12, 12): False,
+                (6, 4, 3, 8, 1, 11, 12): False, (6, 4, 3, 8, 1, 12, 13): False, (6, 4, 3, 8, 1, 12, 11): False,
+                (5, 4, 3, 8, 1, 12, 12): False, (2, 4, 3, 0, 0, 16, 16): False, (6, 4, 3, 0, 0, 0, 0): False,
+                (6, 4, 3, 64, 0, 0, 0): False, (6, 4, 3, 64, 0, 1, 1): True, (6, 4, 3, 63, 0, 1, 1): False,
+                # Powers of two meet both bounds.
+                (6, 4, 3, 0, 0, 16, 16): True, (6, 4, 3, 1, 0, 16, 16): False, (6, 4, 3, 3, 1, 16, 16): True,
+                (6, 4, 3, 4, 1, 16, 16): False, (6, 32, 3, 0, 0, 2**32, 2**32): True,
+                (6, 32, 3, 3, 1, 2**32, 2**32): True, (6, 32, 3, 4, 1, 2**32, 2**32): False,
+                (6, 32, 3, 480, 0, 4, 4): True, (6, 32, 3, 479, 0, 4, 4): False, (6, 32, 3, 481, 0, 4, 4): False,
+                # Just below 2^32, whose sixteenth power is 2^512.
+                (6, 32, 3, 1, 1, 2**32 - 4, 2**32 - 4): True, (6, 32, 3, 0, 1, 2**32 - 4, 2**32 - 4): False,
+                (6, 32, 3, 1, 0, 2**32 - 4, 2**32 - 4): False},
+}
+
+
+def claims():
+    for name, verdicts in CLAIMS.items():
+        assert set(verdicts.values()) == {True, False}
+        for i, ((kind, n, number, weight, chains, fitting, count), right) in enumerate(verdicts.items()):
+            report = (number, 16 * weight if number == 2 else weight, chains, fitting)
+            assert agrees(kind, n, report, count) == right, (name, i)
+            cases.append(f"claim {name} {i}: {kind} {n} {number} {weight} {chains} {fitting} {count}\n")
+            answers.append(f"claim {name} {i}: {'right' if right else 'wrong'}\n")
+
+
+def wrong_ones():
+    """There is no kind 10: no report, which counts as impossible and wrong."""
+    name = "every differential of kind 10 and width 2"
+    cases.append(f"{name}: 10 2\n")
+    answers.append(f"{name}: 64, impossible 64, wrong 64, weight 0, chains 0, N 0, checksum 0\n")
+
+
 def texts():
     """The lines of all cases, and of their answers."""
     for group in (all_differentials, starred, misreadings, subtractions, shifts, example_1, table_15, four_bits, long_chains,
-                  whole_sheets, copies, impossible_copies, apart_by_one_field, refused_sheets, self_xors):
+                  whole_sheets, copies, impossible_copies, apart_by_one_field, refused_sheets, self_xors, claims, wrong_ones):
         group()
     return cases, answers

@@ -31,10 +31,10 @@
 //! The calls are there when the build has found the archive: in the folder that
 //! `TABLEGULL_LIB` names, or else in `../target/staticlib`.
 //!
-//! [`mod@reference`] has the same calls, for texts those for a part, in plain Rust,
-//! written from documents 01 and 02 (all but joining, question 23 and the texts from
-//! these alone), and sharing no code with the archive; the tests hold the two against
-//! each other. [`builder`] makes sheets.
+//! [`mod@reference`] has the calls of `slices` in plain Rust, written from documents
+//! 01 and 02 (all but joining, question 23 and the texts from these alone), and
+//! sharing no code with the archive; the tests hold the two against each other.
+//! [`builder`] makes sheets.
 //!
 //! Programs, all with `cargo run --release --bin NAME`:
 //!

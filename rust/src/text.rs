@@ -1,5 +1,5 @@
-//! Reading a program's input, and decimal text written fast: a clause file has
-//! over a million numbers.
+//! Reading a program's input, and decimal text written fast: a clause file may
+//! have over a million numbers.
 
 use std::io::{self, Read, Write};
 

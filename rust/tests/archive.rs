@@ -8,6 +8,15 @@ mod common;
 #[ignore = "libtablegull.a was not found, so NOTHING IS COMPARED WITH THE ARCHIVE"]
 fn the_archive_is_left_out() {}
 
+/// An archive in its place is linked: else all that compares with it would be left
+/// out.
+#[cfg(not(has_archive))]
+#[test]
+fn there_is_no_archive() {
+    let folder = std::path::Path::new(env!("CARGO_MANIFEST_DIR")).join("../target/staticlib");
+    assert!(!folder.join("libtablegull.a").exists());
+}
+
 #[cfg(has_archive)]
 mod compared {
     use std::fmt::Debug;

@@ -145,6 +145,68 @@ fn text_programs() -> Vec<PathBuf> {
         .collect()
 }
 
+#[cfg(not(has_programs))]
+#[test]
+#[ignore = "trail_report and trail_clauses were not found, so THE PROVED PROGRAMS ARE NOT RUN"]
+fn the_proved_programs_are_left_out() {}
+
+/// The programs that are there are run, and all that are run print what the
+/// reference's print.
+#[test]
+fn the_programs_that_are_there_are_run() {
+    let programs = text_programs();
+    assert_eq!(programs.len() > 2, cfg!(has_programs));
+    for program in programs {
+        for sheet in [example().sheet(), vec![0; 4609]] {
+            let output = run(program.to_str().unwrap(), &[], &sheet);
+            assert_eq!(text(&output), printed_by(&program, &sheet));
+            assert!(output.stderr.is_empty());
+        }
+    }
+}
+
+#[test]
+fn the_references_programs_end_with_1_where_they_refuse() {
+    for program in [
+        env!("CARGO_BIN_EXE_reference_report"),
+        env!("CARGO_BIN_EXE_reference_clauses"),
+    ] {
+        for (input, status) in [(example().sheet(), 0), (Vec::new(), 1)] {
+            assert_eq!(run(program, &[], &input).status.code(), Some(status));
+        }
+    }
+}
+
+#[test]
+fn words_have_a_digit_for_every_four_bits_begun() {
+    let mut random = Random::new(16);
+    for (width, digits) in [(2, 1), (4, 1), (5, 2), (13, 4), (29, 8), (31, 8)] {
+        let (program, _) = random_program(&mut random, width, 2, 1);
+        let sheet = SheetFile::new(&format!("digits-{width}"), &program.sheet());
+        let (text, _) = sheet.solution(&format!("SAT\n1 {} 0\n", width + 2));
+        let words: Vec<&str> = text.lines().take(2).collect();
+        let wanted = [1, 2].map(|word| format!("{word:0digits$x}"));
+        assert_eq!(words, wanted, "{width}");
+    }
+}
+
+#[test]
+fn solution_says_what_it_cannot_read() {
+    let program = env!("CARGO_BIN_EXE_solution");
+    let good = SheetFile::new("good", &example().sheet());
+    let refused = SheetFile::new("refused", &[0; 512]);
+    let (good, refused) = (good.0.to_str().unwrap(), refused.0.to_str().unwrap());
+    let none = format!("{good}.none");
+    let none = none.as_str();
+    for arguments in [&[][..], &[good, good], &[none], &[refused]] {
+        let output = run(program, arguments, b"SAT\n1 0\n");
+        assert_eq!(output.status.code(), Some(2), "{arguments:?}");
+        assert_eq!(text(&output), "");
+        let said = String::from_utf8(output.stderr).unwrap();
+        assert!(said.starts_with("solution: "), "{said}");
+    }
+}
+
 /// Runs a program whose output cannot be written, and answers what it prints on
 /// standard error. A program that has not ended after a minute never will.
 fn run_into_a_full_device(program: &Path, input: &[u8]) -> String {
@@ -182,6 +244,20 @@ fn a_full_device_is_told_in_one_line() {
             assert!(one_line, "{}: {printed:?}", program.display());
             assert_ne!(printed.trim(), "", "{}", program.display());
         }
+    }
+}
+
+/// A folder can be opened and not read. That is no sheet of no bytes, which would be
+/// refused.
+#[test]
+fn a_read_that_fails_is_told_and_nothing_is_printed() {
+    for program in text_programs() {
+        let folder = File::open(env!("CARGO_MANIFEST_DIR")).unwrap();
+        let output = Command::new(&program).stdin(folder).output().unwrap();
+        assert_eq!(text(&output), "", "{}", program.display());
+        let said = String::from_utf8(output.stderr).unwrap();
+        let one_line = said.lines().count() == 1 && said.ends_with('\n');
+        assert!(one_line, "{}: {said:?}", program.display());
     }
 }
 

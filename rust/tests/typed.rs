@@ -5,7 +5,8 @@
 
 mod common;
 
-use common::write_checks;
+use common::texts::TEXTS;
+use common::{write_checks, Report, ARCHIVE};
 use tablegull::builder::{Line, SheetBuilder};
 use tablegull::{slices, LineReport, Refusal, Runs, Sixteenths, Totals, WholeBits};
 
@@ -185,4 +186,87 @@ fn a_joined_sheet_has_its_own_length() {
         place: 0,
     };
     assert_eq!(tablegull::join(&sheet, &sheet, &[0]), Err(refusal));
+}
+
+/// A sheet of 248 lines whose reports have the largest numbers, and the one with
+/// the longest lists and texts.
+const LARGEST: [&[u8]; 2] = [
+    include_bytes!("../../crates/trail_report/stdin"),
+    include_bytes!("../../crates/cases/data/largest.sheet"),
+];
+
+/// A report's numbers as its buffer has them.
+fn numbers(report: LineReport) -> Report {
+    let (number, weight, chains, count) = match report {
+        LineReport::Impossible => (0, 0, 0, 0),
+        LineReport::Certain => (1, 0, 0, 0),
+        LineReport::Halves { weight } => (2, 16 * weight.0, 0, 0),
+        LineReport::Counted {
+            weight,
+            chains,
+            fitting,
+        } => (3, weight.0, chains, fitting),
+    };
+    Report {
+        number,
+        weight: weight as u32,
+        chains,
+        count,
+    }
+}
+
+#[test]
+fn the_largest_reports_are_whole() {
+    let mut largest = (0, 0, 0);
+    for sheet in LARGEST {
+        let expected = ARCHIVE.reports(sheet);
+        assert_eq!(expected.len(), tablegull::MAX_LINES);
+        let reports = tablegull::reports(sheet).expect("an accepted sheet");
+        assert!(reports.iter().copied().map(numbers).eq(expected.clone()));
+        for (line, report) in reports.into_iter().enumerate() {
+            assert_eq!(tablegull::line_report(sheet, line), Ok(report));
+        }
+        for report in expected {
+            let (weight, chains, count) = largest;
+            largest = (
+                report.weight.max(weight),
+                report.chains.max(chains),
+                report.count.max(count),
+            );
+        }
+    }
+    assert_eq!(largest, (496, 16, 1 << 32));
+}
+
+#[test]
+fn the_longest_lists_and_texts_are_whole() {
+    let mut longest = 0;
+    for sheet in LARGEST {
+        for line in 0..tablegull::MAX_LINES {
+            let list = tablegull::line_clauses(sheet, line).expect("a line of the sheet");
+            let clauses = list.split(|&number| number == 0).map(<[i32]>::to_vec);
+            let clauses: Vec<Vec<i32>> = clauses.collect();
+            let (last, clauses) = clauses.split_last().expect("what is after the last 0");
+            assert!(last.is_empty() && *clauses == ARCHIVE.clauses(sheet, line));
+            longest = longest.max(list.len());
+        }
+        let [clauses, report] = TEXTS.map(|text| ARCHIVE.joined_text(text, sheet));
+        assert!(tablegull::clause_text(sheet) == Ok(clauses));
+        assert!(tablegull::report_text(sheet) == Ok(report));
+    }
+    assert_eq!(longest, tablegull::MAX_LINE_CLAUSES);
+}
+
+#[test]
+fn the_longest_joined_sheet_is_whole() {
+    let half = |kept: usize| {
+        let mut sheet = SheetBuilder::new(8, &[1]);
+        for _ in 0..kept {
+            sheet.line(Line::xor_constant(0, 5, 1));
+        }
+        sheet.seal().expect("a sheet that sealing accepts")
+    };
+    let joined = tablegull::join(&half(124), &half(124), &[0]);
+    assert!(joined == Ok(half(248)));
+    assert_eq!(half(248).len(), tablegull::MAX_SHEET);
 }

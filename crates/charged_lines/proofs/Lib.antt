@@ -1,1 +1,1 @@
-pub mod Charged
+pub mod Marks

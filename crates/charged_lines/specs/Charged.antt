@@ -1,33 +1,30 @@
--- Lines in a list of numbers, and the lines that are kept so. Inner notions of the code: no document speaks of them.
-use Prim.Native.Nat.{ℕ, _+_, _*_, _^_, _%_}
-use mathlib.Core.Bool.{Bool}
-use mathlib.Core.List.{List, [], _∷_}
+-- The lines that are charged, and the marks beside their list. Inner notions of the code: no document speaks of them.
+use Prim.Native.Nat.{ℕ, _*_, _/_, _%_, _^_}
+use mathlib.Core.Path.{_≡_}
+use mathlib.Core.Bool.{Bool, true, not}
+use mathlib.Core.List.{List}
 use lib.Bits.{bitXor}
 use lib.Dec.{eqb, ltb}
-use lib.ListN.{length, getD}
-use Rattle.words.specs.Below.{any, all}
+use lib.ListN.{getD}
 use Rattle.trail.specs.declared.Line.{Line}
 use Rattle.differential.specs.Report.{Report}
+use Rattle.listed_lines.specs.Listed.{fingerprint, isListed}
 
--- so many numbers to a line
-abbrev pub lineNumbers : ℕ
-lineNumbers = 7
+-- so many marks
+abbrev pub marksCount : ℕ
+marksCount = 4096
 
--- a number in which lines that differ nearly always differ
-abbrev pub fingerprint : Line → ℕ
-fingerprint l = bitXor (bitXor (bitXor (l .first * 2 ^ 48 % 2 ^ 64) (l .second * 2 ^ 32 % 2 ^ 64)) (l .constant)) (l .difference)
+-- the place of a line's mark, from its fingerprint: the product's bits 20 to 31 come from all bits that are multiplied
+unfoldable pub markOf : Line → ℕ
+markOf l = bitXor (bitXor (fingerprint l) (fingerprint l / 2 ^ 20)) (fingerprint l / 2 ^ 32) % 2 ^ 32 * 2654435769 / 2 ^ 20 % marksCount
 
--- a line's numbers: its fingerprint, and its fields
-abbrev pub numbersOf : Line → List ℕ
-numbersOf l = fingerprint l ∷ l .first ∷ l .second ∷ l .difference ∷ l .constant ∷ l .kind ∷ l .amount ∷ []
+-- whether the mark at the line's place is set
+unfoldable pub isMarked : List ℕ → Line → Bool
+isMarked marks l = not (eqb (getD marks (markOf l) 0) 0)
 
--- whether the numbers stand in a list from a position on
-unfoldable pub standsAt : List ℕ → ℕ → List ℕ → Bool
-standsAt s at numbers = all (length numbers) (λ j. eqb (getD s (at + j) 0) (getD numbers j 0))
-
--- whether one of the first `count` lines is this one
-unfoldable pub isListed : List ℕ → ℕ → Line → Bool
-isListed s count l = any count (λ i. standsAt s (lineNumbers * i) (numbersOf l))
+-- Every line of the list is marked: one whose mark is not set need not be searched for.
+pub record Marked (s : List ℕ) (count : ℕ) (marks : List ℕ) : Type 0 where
+  pub marked : (l : Line) → isListed s count l ≡ true → isMarked marks l ≡ true
 
 -- whether a report may have weight or chains: halves or counted
 abbrev pub costs : Report → Bool

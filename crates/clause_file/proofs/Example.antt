@@ -4,6 +4,7 @@ use Prim.Native.String.{String}
 use mathlib.Core.Path.{_≡_, refl, ap, _∙_}
 use mathlib.Core.Bool.{xor}
 use mathlib.Core.List.{List, [], _∷_, _++_}
+use lib.IntN.{ℤ}
 use Rattle.words.specs.Words.{bit}
 use Rattle.words.specs.Below.{count, total, concat}
 use Rattle.trail.specs.Kinds.{kindOf}
@@ -14,11 +15,15 @@ use Rattle.clause_lists.specs.Variables.{bitVariable, variablesBefore, carryVar
 use Rattle.clause_lists.specs.Lists.{bitClauses, runClauses, clausesIn, lineClauses, clauseCount}
 use Rattle.sheet.specs.Fields.{trailOf}
 use Rattle.sheet_example.specs.Example.{exampleSheet}
-use Rattle.sheet_example.proofs.Example.{example-trail}
+use Rattle.sheet_example.proofs.Example.{example-accepted, example-trail}
 use Rattle.decimal.specs.Ascii.{ascii}
 use Rattle.decimal.specs.Decimal.{digits, decimal, spaced}
 use Rattle.dimacs.specs.Text.{literalText, clauseText, clausesText, headerText}
+use Rattle.dimacs.specs.Reading.{readFile}
+use Rattle.dimacs.specs.Reading.Reading.{file}
 use Rattle.clause_file.specs.File.{fileText}
+use Rattle.clause_file.specs.Demand3.{writtenFile, LongEnoughForParts, FilePairs}
+use Rattle.clause_file.proofs.Demand3.{every-file-pairs}
 
 -- lines of text, each with its end
 abbrev linesText : List String → List ℕ
@@ -48,3 +53,8 @@ pub example-file : fileText (trailOf exampleSheet)
     )
 unfolding fileText headerText clausesText clauseText literalText spaced decimal digits ascii variables variablesBefore clauseCount total lineClauses clausesIn runClauses bitClauses parity ones twoOrMore gate rowClauses wrong valuesIn clauseOf literals concat bitLiteral carryLiteral carryVariable bitVariable count lineAt differenceAt kindOf bit xor
 example-file = ap fileText example-trail ∙ refl
+
+-- demand 3 for the bytes of its file
+pub example-pairs : (buffers : ℕ → List ℕ) → LongEnoughForParts exampleSheet buffers → (v c : ℕ) (list : List ℤ)
+    → readFile (writtenFile exampleSheet buffers) ≡ file v c list → FilePairs exampleSheet v c list
+example-pairs = every-file-pairs exampleSheet example-accepted

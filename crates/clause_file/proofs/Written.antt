@@ -12,7 +12,9 @@ use Rattle.sheet.specs.Fields.{trailOf}
 use Rattle.sheet.specs.Questions.{IsAccepted}
 use Rattle.text_parts.proofs.Accepted.{written-part, parts-are-written}
 use Rattle.clause_file.specs.File.{fileText}
-use Rattle.clause_file.specs.Parts.{filePart, MostIsEnough}
+use Rattle.text_parts.specs.Parts.{AnswersParts}
+use Rattle.text_parts.proofs.Answers.{answers-parts}
+use Rattle.clause_file.specs.Parts.{filePart, clauseTextCall, MostIsEnough}
 use Rattle.clause_file.specs.Demand3.{writtenFile, EveryFileIsWritten}
 use Rattle.clause_file.proofs.Parts.{file-is-its-parts, parts-are-within}
 
@@ -31,3 +33,6 @@ most-is-enough s accepts part most out room =
 pub just-enough : (s : List ℕ) → IsAccepted s
     → writtenFile s (λ part. cond (leb part (lineCount (trailOf s))) (filePart (trailOf s) part) []) ≡ fileText (trailOf s)
 just-enough s accepts = every-file-is-written s accepts _ (λ part most. rw (le-leb part (lineCount (trailOf s)) most) (omega arith))
+
+pub answers-file-parts : AnswersParts filePart clauseTextCall
+answers-file-parts = answers-parts filePart

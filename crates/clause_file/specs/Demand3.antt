@@ -13,7 +13,7 @@ use Rattle.clause_lists.specs.Pairing.{SatisfiedExactly, MapsInverse, EquallyMa
 use Rattle.sheet.specs.Fields.{trailOf}
 use Rattle.sheet.specs.Questions.{IsAccepted}
 use Rattle.answers.specs.Calls.{written}
-use Rattle.sheet_reports.specs.Lines.{lineReport}
+use Rattle.trail_reports.specs.Lines.{lineReport}
 use Rattle.clauses.specs.Demand3.{joinedList, LongEnough, NoneOfEither}
 use Rattle.dimacs.specs.Reading.{readFile}
 use Rattle.dimacs.specs.Reading.Reading.{file}

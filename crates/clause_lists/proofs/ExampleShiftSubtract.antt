@@ -2,7 +2,7 @@
 -- addition has its carry.
 use mathlib.Core.Path.{_≡_, refl}
 use mathlib.Core.Bool.{xor}
-use mathlib.Core.List.{[], _∷_}
+use mathlib.Core.List.{List, [], _∷_}
 use Prim.Native.Nat.{ℕ}
 use lib.IntN.{ℤ, pos, negℤ}
 use Rattle.words.specs.Words.{bit}
@@ -13,6 +13,7 @@ use Rattle.cnf.specs.Formulas.{numbers}
 use Rattle.cnf.specs.Gates.{literals, clauseOf, valuesIn, wrong, rowClauses, gate}
 use Rattle.clause_lists.specs.Kinds.{parity, ones, lessThan}
 use Rattle.clause_lists.specs.Variables.{bitVariable, variablesBefore, carryVariable, variables, bitLiteral, carryLiteral}
+use Rattle.clause_lists.specs.Variables.Run.{firstRun, secondRun}
 use Rattle.clause_lists.specs.Lists.{bitClauses, runClauses, clausesIn, lineClauses, lineList, clauseCount, joined}
 
 -- a negated literal
@@ -124,3 +125,29 @@ pub subtracted-list : joined subtracted ≡
     []
 unfolding subtracted joined lineList numbers lineClauses clausesIn runClauses bitClauses parity ones lessThan gate rowClauses wrong valuesIn clauseOf literals concat bitLiteral carryLiteral carryVariable variablesBefore bitVariable count lineAt differenceAt kindOf bit xor
 subtracted-list = refl
+
+-- ---- n = 3: the variables of carries and borrows, of each such line in order, the first run's and then the second's
+
+-- two inputs and three lines have 15 variables before them; line 1 has none
+unfoldable pub threeLines : Trail
+threeLines = record {
+  width = 3;
+  inputs = 0 ∷ 0 ∷ [];
+  lines =
+      record { kind = 9; amount = 0; first = 0; second = 1; constant = 0; difference = 0 }
+      ∷ record { kind = 1; amount = 0; first = 0; second = 1; constant = 0; difference = 0 }
+      ∷ record { kind = 5; amount = 0; first = 0; second = 1; constant = 0; difference = 0 }
+      ∷ [];
+}
+
+abbrev carriesOf : ℕ → List ℕ
+carriesOf k =
+    carryVariable threeLines firstRun k 1
+    ∷ carryVariable threeLines firstRun k 2
+    ∷ carryVariable threeLines secondRun k 1
+    ∷ carryVariable threeLines secondRun k 2
+    ∷ []
+
+pub carries-numbered : (carriesOf 0 ≡ 16 ∷ 17 ∷ 18 ∷ 19 ∷ []) × (carriesOf 2 ≡ 20 ∷ 21 ∷ 22 ∷ 23 ∷ []) × (variables threeLines ≡ 23)
+unfolding threeLines carryVariable variables variablesBefore count lineAt kindOf
+carries-numbered = (refl, refl, refl)

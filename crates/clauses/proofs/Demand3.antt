@@ -14,7 +14,7 @@ use Rattle.clause_lists.proofs.Demand3.{every-trail-pairs}
 use Rattle.sheet.specs.Fields.{trailOf}
 use Rattle.sheet.specs.declared.Mode.the-variants.{Read}
 use Rattle.sheet.proofs.WellFormed.{accepted-well-formed}
-use Rattle.sheet_reports.proofs.Demand2.{sheet-reports-are-right}
+use Rattle.trail_reports.proofs.Demand2.{sheet-reports-are-right}
 use Rattle.clauses.specs.Demand3.{NoneOfEither, EverySheetPairs}
 use Rattle.clauses.proofs.Written.{written-list, joined-list}
 use Rattle.clauses.proofs.Impossible.{none-follows}

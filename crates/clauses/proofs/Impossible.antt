@@ -14,7 +14,7 @@ use Rattle.trail.specs.Runs.{runWord, partner, isStart, follows}
 use Rattle.trail.proofs.Runs.{run-line, run-word, partner-start, follows-line, second-below}
 use Rattle.trail.proofs.Differences.{follows-words}
 use Rattle.differential.specs.Fits.{fits}
-use Rattle.sheet_reports.specs.Lines.{differentialOf}
+use Rattle.trail_reports.specs.Lines.{differentialOf}
 
 module _ {t : Trail} (good : WellFormed t) (x : List ℕ) (start : isStart t x ≡ true) (following : follows t x ≡ true) where
   -- the second run's words

@@ -15,7 +15,7 @@ use Rattle.clause_lists.specs.Pairing.{IsAssignment, SatisfiedExactly, MapsInve
 use Rattle.sheet.specs.Fields.{trailOf}
 use Rattle.sheet.specs.Questions.{IsAccepted}
 use Rattle.answers.specs.Calls.{written}
-use Rattle.sheet_reports.specs.Lines.{lineReport}
+use Rattle.trail_reports.specs.Lines.{lineReport}
 use Rattle.clauses.specs.Answers.{listCall}
 
 -- The joined list is what the call for one line's list, lent a buffer long enough for each answer, writes for lines 0 to L - 1, in

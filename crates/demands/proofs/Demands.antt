@@ -11,12 +11,14 @@ use Rattle.sheet.specs.Fields.{headerOf}
 use Rattle.sheet.specs.Questions.{questions}
 use Rattle.sheet.specs.declared.Mode.the-variants.{Seal}
 use Rattle.sheet.proofs.Asking.{verdict-yes, yes-verdict, no-verdict, go-on}
+use Rattle.sheet.proofs.LineAsking.{reading-asks, sealing-asks}
 use Rattle.answers.specs.Calls.{writing}
-use Rattle.sealing.proofs.WrittenChecks.{sealed-no}
-use Rattle.sealing.proofs.Demand2.{sealing-is-right}
-use Rattle.sheet_reports.proofs.Demand2.{sheet-reports-are-right}
+use Rattle.sealed_sheets.proofs.WrittenChecks.{sealed-no}
+use Rattle.sealed_sheets.proofs.Demand2.{sealing-is-right}
+use Rattle.trail_reports.proofs.Demand2.{sheet-reports-are-right}
 use Rattle.clauses.proofs.Demand3.{every-sheet-pairs}
 use Rattle.demands.specs.Demands.{FirstNo, Demands}
+use Rattle.demands.proofs.Calls.{calls-answer}
 
 no-questions : allYes [] ≡ true
 unfolding allYes
@@ -65,9 +67,12 @@ module _ {A : Type 0} where
 pub demands : Demands
 demands = record {
   first = record {
+    reading-asks = reading-asks;
+    sealing-asks = sealing-asks;
     accepted-exactly = λ qs a b. (yes-verdict qs a b, λ yes. verdict-yes qs a (yes .0) ∙ ap accepted (yes .1));
     refused-exactly = λ qs a number place. (first-no qs a, is-first qs a);
     refused-unwritten = unwritten;
+    calls = calls-answer;
     refused-unsealed = λ s number place e. sealed-no s (no-verdict (questions Seal s) (headerOf s) e);
   };
   second = record { reports = sheet-reports-are-right; sealing = sealing-is-right };

@@ -1,4 +1,4 @@
--- The owner's three demands: the whole claim. Each speaks of the definitions that the calls' contracts cite.
+-- The owner's three demands. Each speaks of the definitions that the calls' contracts cite.
 use Prim.Native.Nat.{ℕ}
 use mathlib.Core.Path.{_≡_}
 use mathlib.Core.Logic.{_↔_}
@@ -8,12 +8,14 @@ use Rattle.sheet.specs.Asking.{Question, ask, allYes, verdict}
 use Rattle.sheet.specs.Asking.Verdict.{accepted, refused}
 use Rattle.sheet.specs.Fields.{headerOf}
 use Rattle.sheet.specs.Questions.{questions}
+use Rattle.sheet.specs.InOrder.{ReadingAsks, SealingAsks}
 use Rattle.sheet.specs.declared.Mode.the-variants.{Seal}
 use Rattle.answers.specs.Calls.{writing}
-use Rattle.sealing.specs.Sealing.{sealed}
-use Rattle.sealing.specs.Demands.{SealingIsRight}
-use Rattle.sheet_reports.specs.Demand2.{SheetReportsAreRight}
+use Rattle.sealed_sheets.specs.Sealing.{sealed}
+use Rattle.sealed_sheets.specs.Demands.{SealingIsRight}
+use Rattle.trail_reports.specs.Demand2.{SheetReportsAreRight}
 use Rattle.clauses.specs.Demand3.{EverySheetPairs}
+use Rattle.demands.specs.Calls.{CallsAnswer}
 
 -- a question with this number and place is the first whose answer is no
 pub record FirstNo (qs : List Question) (number place : ℕ) : Type 0 where
@@ -24,13 +26,18 @@ pub record FirstNo (qs : List Question) (number place : ℕ) : Type 0 where
 
 -- Demand 1. A sheet handed in, of any length and content, is accepted or refused by the first failing question of document 01, with
 -- that number and place. Every call returns, checks all its own input, and on a refusal writes to no lent buffer.
--- Each call answers the verdict of its list of questions, whatever it is lent: that is its contract, which requires nothing. What a
--- verdict is, and what stands in a lent buffer afterwards where it is a refusal:
+-- Each call on a sheet answers the verdict of its list of questions, whatever it is lent: that is its contract, which requires nothing.
+-- Its list begins with those of the reading, or of sealing. What these are, in their order; what a verdict is; and what stands in a
+-- lent buffer afterwards where it is a refusal; and the calls that write, but for those
+-- for texts and joining, one by one:
 pub record Demand1 : Type 1 where
+  pub reading-asks : ReadingAsks
+  pub sealing-asks : SealingAsks
   pub accepted-exactly : {A : Type 0} (qs : List Question) (a b : A) → (verdict qs a ≡ accepted b) ↔ ((allYes qs ≡ true) × (a ≡ b))
   pub refused-exactly : {A : Type 0} (qs : List Question) (a : A) (number place : ℕ) → (verdict qs a ≡ refused number place) ↔ FirstNo qs number place
   pub refused-unwritten : {A : Type 0} (asks : List Question) (values out : List A) (number place : ℕ)
       → writing asks values out .answer ≡ refused number place → writing asks values out .buffer ≡ out
+  pub calls : CallsAnswer
   pub refused-unsealed : (s : List ℕ) (number place : ℕ) → verdict (questions Seal s) (headerOf s) ≡ refused number place → sealed s ≡ s
 
 -- Demand 2. Each line's report is the XOR differential of source document 000: impossible exactly when no operand values fit, else

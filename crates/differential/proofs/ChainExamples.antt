@@ -53,6 +53,15 @@ pub one-chain : chains 4 3 3 ≡ 1
 unfolding count bit bitBelow xor quiet isChain chains
 one-chain = refl
 
+-- a run of six states 000 is one chain, and 32 bits have room for sixteen
+pub long-chain : chains 8 0x20 0x20 ≡ 1
+unfolding count bit bitBelow xor quiet isChain chains
+long-chain = refl
+
+pub most-chains : chains 32 0x55555555 0x55555555 ≡ 16
+unfolding count bit bitBelow xor quiet isChain chains
+most-chains = refl
+
 -- ---- A = 16 M + F, where the highest one has place 4, at each of the sixteen F
 
 pub four-bits : tabulate 16 (λ f. logarithm (16 + f)) ≡ tabulate 16 (λ f. 16 * 4 + f)

@@ -12,6 +12,7 @@ use Rattle.words.specs.Below.{count, total}
 use Rattle.words.proofs.Below.{count-le}
 use Rattle.words.proofs.Bits.{below-suc, bitBelow-suc, fromBits-cong, fromBits-lt, fromBits-top, value-lt}
 use Rattle.differential.specs.Constant.{State, state, is000, is11, halvings, quiet, isChain, chains, chainT, chainP}
+use Rattle.differential.specs.Product.{chainK}
 
 -- ---- T and p
 
@@ -104,10 +105,6 @@ chainT-next a u v i = at (is000 (state u v i))
     at false = chainT-zero a i
 
 -- ---- the lengths of the chains
-
--- K of a chain, 0 elsewhere
-unfoldable pub chainK : ℕ → ℕ → ℕ → ℕ
-chainK u v i = cond (isChain u v i) (quiet u v i) 0
 
 -- a run of no states 000 has length 0
 pub chainK-11 : (u v i : ℕ) → chainK u v i ≡ cond (is11 (state u v i)) (quiet u v i) 0

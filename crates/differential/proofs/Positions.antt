@@ -8,13 +8,13 @@ use Rattle.words.specs.Words.{value, bit, bitBelow, fromBits}
 use Rattle.words.specs.Below.{count, total}
 use Rattle.words.proofs.Bits.{below-suc}
 use Rattle.differential.specs.Carries.{reaching}
+use Rattle.differential.specs.Product.{product, chainK}
 use Rattle.differential.specs.Constant.{State, state, is000, is11, halvings, quiet, isChain, chainT}
 use Rattle.differential.proofs.BitSums.{both}
 use Rattle.differential.proofs.CarryPairs.{reaching-start, reaching-step}
-use Rattle.differential.proofs.ChainLaws.{chainK, chainK-11, chainT-le, chainT-next, state-suc}
+use Rattle.differential.proofs.ChainLaws.{chainK-11, chainT-le, chainT-next, state-suc}
 use Rattle.differential.proofs.Transitions.{differing, differing-step, differing-all, differing-share}
 use Rattle.differential.proofs.Transitions.{carrying, carrying-step, carrying-share, share}
-use Rattle.differential.proofs.Powers.{product}
 
 module _ (a u v : ℕ) where
   abbrev differ : ℕ → Bool

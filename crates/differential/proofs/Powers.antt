@@ -8,6 +8,7 @@ use native.Mathlib.Omega.{arith}
 use lib.Pow.{pow-add, pow-lt, pow-mono}
 use Rattle.words.specs.Below.{total}
 use Rattle.words.proofs.Below.{below-suc}
+use Rattle.differential.specs.Product.{product}
 
 -- ---- powers
 
@@ -43,10 +44,6 @@ lt-pow zero = omega arith
 lt-pow (suc n) = omega (arith, lt-pow n, pow-suc 2 n)
 
 -- ---- products
-
-unfoldable pub product : ℕ → (ℕ → ℕ) → ℕ
-product zero f = 1
-product (suc b) f = product b f * f b
 
 pub product-cong : (b : ℕ) (f g : ℕ → ℕ) → ((k : ℕ) → k < b → f k ≡ g k) → product b f ≡ product b g
 unfolding product

@@ -11,15 +11,12 @@ use Rattle.words.specs.Words.{bit, bitBelow}
 use Rattle.words.specs.Below.{total}
 use Rattle.differential.specs.Constant.{state, is11, halvings, quiet, isChain, chainT, chainP}
 use Rattle.differential.specs.Constant.{constantFitting}
+use Rattle.differential.specs.Product.{product, chainK, chainFactor, ProductLaw}
 use Rattle.differential.proofs.CarryPairs.{reaching-all}
-use Rattle.differential.proofs.ChainLaws.{chainK, chainP-part, chainT-le, part}
+use Rattle.differential.proofs.ChainLaws.{chainP-part, chainT-le, part}
 use Rattle.differential.proofs.Transitions.{share}
 use Rattle.differential.proofs.Positions.{exponent, factor, four-product}
-use Rattle.differential.proofs.Powers.{product, product-cong, factors-pos, right-pos}
-
--- p of a chain, 1 elsewhere
-unfoldable pub chainFactor : ℕ → ℕ → ℕ → ℕ → ℕ
-chainFactor a u v i = cond (isChain u v i) (chainP a u v (quiet u v i) i) 1
+use Rattle.differential.proofs.Powers.{product-cong, factors-pos, right-pos}
 
 -- A factor that is not 0 is p for a chain, and 1 elsewhere: with K = 0 T or 1 - T is at most 1.
 factor-chain : (a u v i : ℕ) → 0 < factor a u v i → factor a u v i ≡ chainFactor a u v i
@@ -54,11 +51,9 @@ module _ (n a u v : ℕ) (word : v < 2 ^ n) (some : 0 < constantFitting n a u v)
   unfolding chainFactor
   chainP-pos i l e = subst (λ (t : Bool). 0 < cond t (chainP a u v (quiet u v i) i) 1) e (chainFactor-pos i l)
 
-  -- N * 2 ^ (H + the sum of the K) = 2 ^ n * the product of the p, over the chains
-  pub product-law :
-      constantFitting n a u v * 2 ^ (halvings n u v + total n (chainK u v)) ≡ 2 ^ n * product n (chainFactor a u v)
-  unfolding exponent
-  product-law =
-      with-factors
-      ∙ ap (λ (z : ℕ). 2 ^ n * z)
-      (product-cong n (factor a u v) (chainFactor a u v) (λ i l. factor-chain a u v i (factor-pos i l)))
+pub product-law : ProductLaw
+unfolding exponent
+product-law n a u v word some =
+    with-factors n a u v word some
+    ∙ ap (λ (z : ℕ). 2 ^ n * z)
+    (product-cong n (factor a u v) (chainFactor a u v) (λ i l. factor-chain a u v i (factor-pos n a u v word some i l)))

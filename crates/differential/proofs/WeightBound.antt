@@ -12,8 +12,9 @@ use Rattle.words.specs.Words.{value}
 use Rattle.words.specs.Below.{count, total}
 use Rattle.words.proofs.Below.{total-add, total-cong, total-mul}
 use Rattle.words.proofs.LowBits.{count-total}
+use Rattle.differential.specs.Product.{product}
 use Rattle.differential.proofs.Powers.{exponent-le, mul-pow, one-pow, pow-mul}
-use Rattle.differential.proofs.Powers.{product, product-le, product-pow, pow-total}
+use Rattle.differential.proofs.Powers.{product-le, product-pow, pow-total}
 
 -- w is q n less the logarithm of N, in units of 1 / q bit, to within s units
 pub record Bounded (q n N w s : ℕ) : Type 0 where

@@ -5,13 +5,14 @@ use Prim.Native.Nat.{ℕ, zero, suc, _-_, _*_, _^_, _<_, _≤_}
 use native.Mathlib.Omega.{arith}
 use Rattle.words.specs.Below.{total}
 use Rattle.differential.specs.Constant.{constantFitting, halvings, quiet, isChain, chains, chainP}
+use Rattle.differential.specs.Product.{chainK, chainFactor}
 use Rattle.differential.specs.Unit.{unit, slack}
 use Rattle.differential.specs.Logarithm.{logarithm}
 use Rattle.differential.specs.Weight.{chainCost, constantWeight}
 use Rattle.differential.specs.Demand2.{CountedRight}
-use Rattle.differential.proofs.ChainLaws.{chainK, chainP-le, lengths-le}
+use Rattle.differential.proofs.ChainLaws.{chainP-le, lengths-le}
 use Rattle.differential.proofs.Logarithms.{logarithm-low, logarithm-high}
-use Rattle.differential.proofs.Product.{chainFactor, chainFactor-pos, product-law}
+use Rattle.differential.proofs.Product.{chainFactor-pos, product-law}
 use Rattle.differential.proofs.WeightBound.{Bounded, A-le, bounded}
 
 -- for each chain A is at most K whole bits, so that the subtraction of A from them is exact

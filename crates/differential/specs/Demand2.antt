@@ -33,7 +33,7 @@ pub record HalvesRight (n pairs weight : ℕ) : Type 0 where
   pub bits-less : bits < n
   pub pairs-fit : pairs ≡ 2 ^ (2 * n - bits)
 
--- The number of a kind's reports that are not impossible. Kinds 1 to 4 and the shifts are certain; kinds 5 and 9 are halves, never
+-- The report number that a kind's lines have where they are not impossible. Kinds 1 to 4 and the shifts are certain; kinds 5 and 9 are halves, never
 -- certain; kind 6 is counted, never certain. An unknown kind has none.
 abbrev pub possibleNumber : Kind → ℕ
 possibleNumber xorWords = 1

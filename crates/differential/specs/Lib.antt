@@ -5,5 +5,6 @@ pub mod Constant
 pub mod Unit
 pub mod Logarithm
 pub mod Weight
+pub mod Product
 pub mod Report
 pub mod Demand2

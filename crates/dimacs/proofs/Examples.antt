@@ -1,7 +1,8 @@
 -- Texts that are written, texts that a solver reads, and texts that are no file. Assumes nothing.
+use Prim.Native.Nat.{ℕ}
 use mathlib.Core.Path.{_≡_, refl}
 use mathlib.Core.Bool.{Bool, true, false, _&&_, _||_}
-use mathlib.Core.List.{[], _∷_, _++_}
+use mathlib.Core.List.{List, [], _∷_, _++_}
 use lib.Dec.{leb, eqb}
 use lib.IntN.{pos, negsuc}
 use Rattle.words.specs.Below.{all}
@@ -59,6 +60,7 @@ pub record AreNoHeaders : Type 0 where
   pub mark-alone : readFile (ascii "p\n1 -2 0\n") ≡ noFile
   -- a line of blanks alone is the first line, and no header; an empty line is none
   pub blank-line : readFile (ascii " \np cnf 6 1\n1 -2 0\n") ≡ noFile
+  pub blank-alone : readFile (ascii " \n1 -2 0\n") ≡ noFile
   pub first-negative : readFile (ascii "p cnf -6 1\n1 -2 0\n") ≡ noFile
   pub second-negative : readFile (ascii "p cnf 6 -1\n1 -2 0\n") ≡ noFile
   -- a carriage return ends no line, so this is one comment and no header
@@ -68,6 +70,7 @@ pub record AreNoHeaders : Type 0 where
   pub other-mark : readFile (ascii "q cnf 6 1\n1 -2 0\n") ≡ noFile
   pub other-form : readFile (ascii "p sat 6 1\n1 -2 0\n") ≡ noFile
   pub other-letter : readFile (ascii "p dnf 6 1\n1 -2 0\n") ≡ noFile
+  pub other-form-third : readFile (ascii "p dnf 6 1 1\n1 -2 0\n") ≡ noFile
   pub longer-form : readFile (ascii "p cnfs 6 1\n1 -2 0\n") ≡ noFile
   pub shorter-form : readFile (ascii "p cn 6 1\n1 -2 0\n") ≡ noFile
 
@@ -84,6 +87,7 @@ are-no-headers = record {
   no-number = refl;
   mark-alone = refl;
   blank-line = refl;
+  blank-alone = refl;
   first-negative = refl;
   second-negative = refl;
   return-no-end = refl;
@@ -92,6 +96,7 @@ are-no-headers = record {
   other-mark = refl;
   other-form = refl;
   other-letter = refl;
+  other-form-third = refl;
   longer-form = refl;
   shorter-form = refl;
 }
@@ -143,3 +148,16 @@ pub before-header : all 256 (λ b. eqb b 99 || isNoFile (readFile (b ∷ ascii "
 unfolding endsLine partsWords withPiece piecesFrom linesOf wordsOf wordsOfAll isDigit withDigits natural mapped integer both integers
     sameBytes isComment isZero closedAfter withNumbers withHeader readLines readFile ascii all
 before-header = refl
+
+-- ---- headers, whatever their words
+
+-- five words or more are no header,
+pub five-words : (a b c d e : List ℕ) (rest words : List (List ℕ)) → withHeader (a ∷ b ∷ c ∷ d ∷ e ∷ rest) words ≡ noFile
+unfolding withHeader
+five-words a b c d e rest words = refl
+
+-- and four only if they begin with p and cnf
+pub other-words : (mark form v c : List ℕ) (words : List (List ℕ)) → (sameBytes mark (ascii "p") && sameBytes form (ascii "cnf")) ≡ false
+    → withHeader (mark ∷ form ∷ v ∷ c ∷ []) words ≡ noFile
+unfolding withHeader
+other-words mark form v c words e = rw e

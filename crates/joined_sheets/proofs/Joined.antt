@@ -23,7 +23,7 @@ use Rattle.sheet.proofs.Asking.Comes.{done, yes}
 use Rattle.sheet.proofs.WellFormed.{accepted-limited, accepted-well-formed, accepted-sized}
 use Rattle.sheet_encoding.specs.Encoding.{Encoded}
 use Rattle.sheet_encoding.proofs.Encoded.{encoding-is-right}
-use Rattle.sheet_reports.specs.Lines.{lineReport}
+use Rattle.trail_reports.specs.Lines.{lineReport}
 use Rattle.joined_sheets.specs.JoinedSheet.{joinQuestions, joinedTrail, joinedSheet}
 use Rattle.joined_sheets.specs.Theorem.{JoinPassesExactly, JoinedSheetsAreRight}
 use Rattle.joined_sheets.proofs.JoinedReports.{first-report, second-report}

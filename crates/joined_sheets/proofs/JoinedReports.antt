@@ -11,8 +11,8 @@ use Rattle.trail.specs.WellFormed.{WellFormed}
 use Rattle.trail.specs.Joining.{joinedWord, joined}
 use Rattle.trail.proofs.JoinedNames.{Joinable}
 use Rattle.trail.proofs.JoinedLines.{line-first, line-second, difference-first, difference-second}
-use Rattle.sheet_reports.specs.Lines.{lineReport}
-use Rattle.sheet_reports.proofs.Demand2.{reports-are-local}
+use Rattle.trail_reports.specs.Lines.{lineReport}
+use Rattle.trail_reports.proofs.Demand2.{reports-are-local}
 
 module _ {a b : Trail} {names : List ℕ} (can : Joinable a b names) (good-a : WellFormed a) (good-b : WellFormed b) where
   abbrev both : Trail

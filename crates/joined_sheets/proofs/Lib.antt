@@ -1,3 +1,4 @@
 pub mod JoinedReports
 pub mod Joined
 pub mod SelfXor
+pub mod Answered

@@ -1,3 +1,5 @@
 pub mod JoinedSheet
 pub mod Theorem
 pub mod SelfXor
+pub mod JoinCall
+pub mod Answered

@@ -11,7 +11,7 @@ use Rattle.trail.specs.Joining.{NamesRight, namedWords}
 use Rattle.sheet.specs.Asking.{allYes}
 use Rattle.sheet.specs.Fields.{trailOf}
 use Rattle.sheet.specs.Questions.{IsAccepted}
-use Rattle.sheet_reports.specs.Lines.{lineReport}
+use Rattle.trail_reports.specs.Lines.{lineReport}
 use Rattle.joined_sheets.specs.JoinedSheet.{joinQuestions, joinedTrail, joinedSheet}
 
 -- The questions are passed exactly where the widths are the same, the list of names is right, and the joined trail has at most 248

@@ -24,7 +24,8 @@ use Rattle.sheet_writer.proofs.SheetBytes.{sheet-length}
 use Rattle.joined_writer.proofs.JoinedCounts.{joined-lines}
 use Rattle.joined_sheets.specs.JoinedSheet.{joinQuestions, joinedTrail, joinedSheet}
 use Rattle.joined_sheets.proofs.Joined.{few-lines, can}
-use Rattle.joining.specs.Answers.{ownCall, joinCall}
+use Rattle.joined_sheets.specs.JoinCall.{joinCall}
+use Rattle.joining.specs.Answers.{ownCall}
 
 module _ {first second : List ℕ} (names out : List ℕ) {a b : Header} (one : SheetRead first a) (two : SheetRead second b) where
   abbrev own : List Question

@@ -1,7 +1,8 @@
 // Joins two sheets (document 02, W-203). The call that users make is `join`.
 ghost use mathlib.Core.Path.{_≡_};
 ghost use Rattle.sheet.specs.Facts.{SheetRead};
-ghost use Rattle.joining.specs.Answers.{joinMeans, ownCall, joinCall};
+ghost use Rattle.joined_sheets.specs.JoinCall.{joinCall};
+ghost use Rattle.joining.specs.Answers.{joinMeans, ownCall};
 use answers::Reading;
 use answers::Refusal;
 use answers::refusal_of;

@@ -1,7 +1,7 @@
 // Joining as C takes it: a struct for the answer.
 ghost use mathlib.Core.Path.{_≡_};
 ghost use Rattle.answers.specs.Answers.{answerOf};
-ghost use Rattle.joining.specs.Answers.{joinCall};
+ghost use Rattle.joined_sheets.specs.JoinCall.{joinCall};
 use answers::Answer;
 use joining::JoinAnswer;
 

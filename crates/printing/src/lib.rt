@@ -11,6 +11,8 @@ use answers::Refusal;
 use answers::refusal_of;
 use libc::STDOUT_FILENO;
 use reading::read;
+use sheet_input::Input;
+use sheet_input::read_input;
 use text_parts::PartAnswer;
 use texts::REFUSAL_BYTES;
 use texts::clause_text;
@@ -38,11 +40,15 @@ enum Gathered {
     Ended,
 }
 
-// Prints a text of the sheet that is read, or the refusal.
+// Prints a text of the sheet that is read, or the refusal. Where a read fails there is no sheet: it says so on standard error, and
+// prints nothing.
 pub fn print(text: Text, file: i32) {
     let mut input = [0u8; INPUT_BYTES];
-    let n = io::read_full(file, &mut input);
-    print_sheet(text, &input[..n]);
+    let Input::Bytes(n) = read_input(file, &mut input) else {
+        os::fail(b"input");
+        return;
+    };
+    print_sheet(text, &input[0..n]);
 }
 
 // Prints a text of a sheet, or the refusal.

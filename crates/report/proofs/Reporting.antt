@@ -18,9 +18,9 @@ use Rattle.answers.specs.Answers.{readingMeans}
 use Rattle.answers.specs.declared.Reading.{Reading}
 use Rattle.answers.specs.declared.Reading.the-variants.{Accepted}
 use Rattle.answers.proofs.Calling.{was-read, calling}
-use Rattle.sheet_reports.specs.Lines.{lineReport}
-use Rattle.sheet_reports.specs.Totals.{SmallReport}
-use Rattle.sheet_reports.proofs.Demand2.{sheet-report-small}
+use Rattle.trail_reports.specs.Lines.{lineReport}
+use Rattle.trail_reports.specs.Totals.{SmallReport}
+use Rattle.trail_reports.proofs.Demand2.{sheet-report-small}
 use Rattle.report_buffer.specs.Buffer.{sheetBytes, bytesNeeded}
 use Rattle.report_buffer.proofs.ReportBytes.{length-reports}
 

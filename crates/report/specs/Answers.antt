@@ -9,7 +9,7 @@ use Rattle.sheet.specs.Questions.{questions, lineNumberQuestions, roomQuestions
 use Rattle.sheet.specs.declared.Mode.the-variants.{Read}
 use Rattle.answers.specs.Calls.{Call, writing}
 use Rattle.differential.specs.Report.{Report, reportMeans}
-use Rattle.sheet_reports.specs.Totals.{Sums, sumsOf}
+use Rattle.trail_reports.specs.Totals.{Sums, sumsOf}
 use Rattle.report_buffer.specs.Buffer.{sheetBytes}
 use Rattle.report.specs.declared.LineAnswer.{LineAnswer}
 use Rattle.report.specs.declared.LineAnswer.the-variants as line

@@ -4,8 +4,8 @@ ghost use Rattle.sheet.specs.Asking.{verdict};
 ghost use Rattle.sheet.specs.Fields.{trailOf};
 ghost use Rattle.sheet.specs.Questions.{questions};
 ghost use Rattle.sheet.specs.declared.Mode.the-variants.{Read};
-ghost use Rattle.sheet_reports.specs.Lines.{lineReport};
-ghost use Rattle.sheet_reports.specs.Totals.{sheetTotals};
+ghost use Rattle.trail_reports.specs.Lines.{lineReport};
+ghost use Rattle.trail_reports.specs.Totals.{sheetTotals};
 ghost use Rattle.report.specs.Answers.{lineMeans, totalsMeans, bufferMeans, lineAsks, reportsCall};
 use answers::Reading;
 use answers::Refusal;
@@ -14,9 +14,9 @@ use differential::LineReport;
 use reading::read;
 use report_buffer::REPORT_BYTES;
 use report_buffer::put_reports;
-use sheet_reports::Totals;
 use sheet_reports::report_at;
 use sheet_reports::sum_reports;
+use trail_reports::Totals;
 
 pub enum LineAnswer {
     Given(LineReport),

@@ -5,7 +5,7 @@ use Rattle.words.specs.Below.{concat}
 use Rattle.buffers.specs.LittleEndian.{bytesOf}
 use Rattle.trail.specs.Trail.{Trail, lineCount}
 use Rattle.differential.specs.Report.{Report}
-use Rattle.sheet_reports.specs.Lines.{lineReport}
+use Rattle.trail_reports.specs.Lines.{lineReport}
 
 -- the report buffer takes 16 bytes a line
 abbrev pub reportSize : ℕ

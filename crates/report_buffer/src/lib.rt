@@ -5,7 +5,7 @@ ghost use Rattle.buffers.specs.Overwrite.{Wrote};
 ghost use Rattle.sheet.specs.Fields.{trailOf};
 ghost use Rattle.sheet.specs.Facts.{SheetRead};
 ghost use Rattle.differential.specs.Report.{reportMeans};
-ghost use Rattle.sheet_reports.specs.Totals.{SmallReport};
+ghost use Rattle.trail_reports.specs.Totals.{SmallReport};
 ghost use Rattle.report_buffer.specs.Buffer.{reportSize, fieldBytes, reportBytes, sheetBytes, bytesNeeded};
 use buffers::put_number;
 use differential::LineReport;

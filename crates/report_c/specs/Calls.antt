@@ -6,8 +6,8 @@ use Rattle.sheet.specs.Fields.{headerOf, trailOf}
 use Rattle.sheet.specs.Questions.{questions, lineNumberQuestions, roomQuestions}
 use Rattle.sheet.specs.declared.Mode.the-variants.{Read}
 use Rattle.answers.specs.Calls.{Call, writing}
-use Rattle.sheet_reports.specs.Lines.{lineReport}
-use Rattle.sheet_reports.specs.Totals.{Sums, sheetTotals}
+use Rattle.trail_reports.specs.Lines.{lineReport}
+use Rattle.trail_reports.specs.Totals.{Sums, sheetTotals}
 use Rattle.report_buffer.specs.Buffer.{reportSize, reportBytes}
 
 -- one line's bytes of the report buffer: 17, then 18 for them

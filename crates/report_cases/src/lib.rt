@@ -5,7 +5,9 @@
 // - `every ..: KIND WIDTH`, all differentials of a kind and a width;
 // - `differential ..: KIND WIDTH AMOUNT CONSTANT FIRST SECOND DIFFERENCE`, one, with the differences of both operands;
 // - `sheet ..: LENGTH OFFSET=VALUE ..`, a sheet of LENGTH bytes, all 0 but those listed, that is sealed first;
-// - `unsealed ..: LENGTH OFFSET=VALUE ..`, a sheet that is left as it is.
+// - `unsealed ..: LENGTH OFFSET=VALUE ..`, a sheet that is left as it is;
+// - `claim ..: KIND WIDTH REPORT WEIGHT CHAINS N COUNT`, a report and a count that are held against each other.
+mod claims;
 mod every;
 mod line_sheet;
 mod one;
@@ -13,6 +15,7 @@ mod rows;
 mod tally;
 pub mod whole;
 
+use crate::claims::run_claim;
 use crate::every::run_every;
 use crate::one::run_one;
 use crate::whole::run_sheet;
@@ -38,6 +41,7 @@ fn answer(line: &[u8], from: usize) {
         b'e' => run_every(line, from),
         b'd' => run_one(line, from),
         b's' => run_sheet(line, from, true),
+        b'c' => run_claim(line, from),
         _ => run_sheet(line, from, false),
     }
 }

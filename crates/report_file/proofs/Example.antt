@@ -17,8 +17,8 @@ use Rattle.differential.specs.Logarithm.{highestOneBelow, highestOne, nextFour,
 use Rattle.differential.specs.Weight.{chainCost, constantWeight}
 use Rattle.differential.specs.Report.{impossible, certain, halves, counted, reportOf}
 use Rattle.sheet.specs.Fields.{trailOf}
-use Rattle.sheet_reports.specs.Lines.{differentialOf, lineReport}
-use Rattle.sheet_reports.specs.Totals.{rangeTotals}
+use Rattle.trail_reports.specs.Lines.{differentialOf, lineReport}
+use Rattle.trail_reports.specs.Totals.{rangeTotals}
 use Rattle.sheet_example.specs.Example.{exampleSheet}
 use Rattle.sheet_example.proofs.Example.{example-trail}
 use Rattle.report_file.specs.Text.{nameText, lineText, totalsText, reportText}

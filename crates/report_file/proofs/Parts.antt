@@ -23,10 +23,10 @@ use Rattle.sheet.specs.Questions.{IsAccepted}
 use Rattle.sheet.specs.declared.Header.{Header}
 use Rattle.sheet.specs.declared.Mode.the-variants.{Read}
 use Rattle.sheet.proofs.WellFormed.{accepted-sized}
-use Rattle.sheet_reports.specs.Lines.{lineReport}
-use Rattle.sheet_reports.specs.Totals.{Sums, sheetTotals, SmallReport}
-use Rattle.sheet_reports.proofs.Demand2.{sheet-report-small}
-use Rattle.sheet_reports.proofs.Sums.{SmallSums, totals-small}
+use Rattle.trail_reports.specs.Lines.{lineReport}
+use Rattle.trail_reports.specs.Totals.{Sums, sheetTotals, SmallReport}
+use Rattle.trail_reports.proofs.Demand2.{sheet-report-small}
+use Rattle.trail_reports.proofs.RangeTotals.{SmallSums, totals-small}
 use Rattle.report_file.specs.Text.{nameText, lineText, totalsText, reportText}
 use Rattle.report_file.specs.Parts.{reportPart, mostBytes, ReportIsItsParts, PartsAreWithin}
 

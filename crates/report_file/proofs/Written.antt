@@ -6,7 +6,9 @@ use Rattle.words.proofs.Below.{concat-cong}
 use Rattle.trail.specs.Trail.{lineCount}
 use Rattle.sheet.specs.Fields.{trailOf}
 use Rattle.text_parts.proofs.Accepted.{written-part, parts-are-written}
-use Rattle.report_file.specs.Parts.{reportPart, MostIsEnough, writtenReport, EveryReportIsWritten}
+use Rattle.text_parts.specs.Parts.{AnswersParts}
+use Rattle.text_parts.proofs.Answers.{answers-parts}
+use Rattle.report_file.specs.Parts.{reportPart, reportTextCall, MostIsEnough, writtenReport, EveryReportIsWritten}
 use Rattle.report_file.proofs.Parts.{report-is-its-parts, parts-are-within}
 
 pub most-is-enough : MostIsEnough
@@ -19,3 +21,6 @@ every-report-is-written s accepts buffers long =
     concat-cong (lineCount (trailOf s) + 1) _ (reportPart (trailOf s))
     (λ part l. written-part s accepts part (omega arith) (reportPart (trailOf s) part) (buffers part) (long part (omega arith)))
     ∙ sym (report-is-its-parts (trailOf s))
+
+pub answers-report-parts : AnswersParts reportPart reportTextCall
+answers-report-parts = answers-parts reportPart

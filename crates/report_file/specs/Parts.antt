@@ -12,8 +12,8 @@ use Rattle.sheet.specs.Fields.{trailOf}
 use Rattle.sheet.specs.Questions.{IsAccepted}
 use Rattle.answers.specs.Calls.{Call, written}
 use Rattle.text_parts.specs.Parts.{partCall}
-use Rattle.sheet_reports.specs.Lines.{lineReport}
-use Rattle.sheet_reports.specs.Totals.{sheetTotals}
+use Rattle.trail_reports.specs.Lines.{lineReport}
+use Rattle.trail_reports.specs.Totals.{sheetTotals}
 use Rattle.report_file.specs.Text.{lineText, totalsText, reportText}
 
 unfoldable pub reportPart : Trail → ℕ → List ℕ

@@ -6,8 +6,8 @@ use lib.Dec.{eqb}
 use Rattle.words.specs.Below.{concat}
 use Rattle.trail.specs.Trail.{Trail, lineCount}
 use Rattle.differential.specs.Report.{Report}
-use Rattle.sheet_reports.specs.Lines.{lineReport}
-use Rattle.sheet_reports.specs.Totals.{Sums, sheetTotals}
+use Rattle.trail_reports.specs.Lines.{lineReport}
+use Rattle.trail_reports.specs.Totals.{Sums, sheetTotals}
 use Rattle.decimal.specs.Ascii.{ascii}
 use Rattle.decimal.specs.Decimal.{decimal, spaced}
 

@@ -10,7 +10,7 @@ use Rattle.decimal.specs.Ascii.{ascii}
 use Rattle.decimal.specs.Decimal.{decimal, behind}
 use Rattle.differential.specs.Report.{Report, reportMeans}
 use Rattle.differential.specs.declared.LineReport.{LineReport}
-use Rattle.sheet_reports.specs.Totals.{Sums}
+use Rattle.trail_reports.specs.Totals.{Sums}
 use Rattle.report_file.specs.Text.{nameText, lineText, totalsText}
 
 -- ---- the totals

@@ -8,7 +8,7 @@ ghost use Rattle.decimal.specs.Decimal.{behind};
 ghost use Rattle.sheet.specs.Facts.{SheetRead};
 ghost use Rattle.sheet.specs.Fields.{trailOf};
 ghost use Rattle.differential.specs.Report.{reportMeans};
-ghost use Rattle.sheet_reports.specs.Totals.{SmallReport, sumsOf};
+ghost use Rattle.trail_reports.specs.Totals.{SmallReport, sumsOf};
 ghost use Rattle.text_parts.specs.Parts.{partMeans, roomCall};
 ghost use Rattle.report_file.specs.Text.{lineText, totalsText};
 ghost use Rattle.report_file.specs.Parts.{reportPart, mostBytes};
@@ -16,11 +16,11 @@ use decimal::put_decimal;
 use decimal::put_line;
 use differential::LineReport;
 use sheet::Header;
-use sheet_reports::Totals;
 use sheet_reports::report_at;
 use sheet_reports::sum_reports;
 use text_parts::PartAnswer;
 use text_parts::put_part;
+use trail_reports::Totals;
 use units::in_sixteenths;
 
 // Enough for any part.

@@ -7,7 +7,7 @@ ghost use Rattle.sheet.specs.Fields.{headerOf};
 ghost use Rattle.sheet.specs.Questions.{questions};
 ghost use Rattle.sheet.specs.declared.Mode.the-variants.{Seal};
 ghost use Rattle.answers.specs.Answers.{readingMeans};
-ghost use Rattle.sealing.specs.Sealing.{withChecks, sealed};
+ghost use Rattle.sealed_sheets.specs.Sealing.{withChecks, sealed};
 use answers::Reading;
 use block_questions::checks::block_check;
 use buffers::put_number;

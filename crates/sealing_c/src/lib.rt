@@ -5,7 +5,7 @@ ghost use Rattle.sheet.specs.Fields.{headerOf};
 ghost use Rattle.sheet.specs.Questions.{questions};
 ghost use Rattle.sheet.specs.declared.Mode.the-variants.{Seal};
 ghost use Rattle.answers.specs.Answers.{answerOf};
-ghost use Rattle.sealing.specs.Sealing.{sealed};
+ghost use Rattle.sealed_sheets.specs.Sealing.{sealed};
 use answers::Answer;
 use answers::Reading;
 

@@ -1,10 +1,10 @@
--- Sheets by computation: with one byte wrong they are refused with their number and place. So are lines of kinds 7 to 9 with a field
--- wrong, and in sealing a word XORed with itself.
+-- By computation: a sheet with one byte of the header wrong is refused by sealing with number and place; lines, what lies past them,
+-- lengths and checks are asked alone.
 use mathlib.Core.Path.{_≡_, refl}
 use mathlib.Core.List.{List, [], _∷_, _++_, map}
-use Prim.Native.Nat.{ℕ}
+use Prim.Native.Nat.{ℕ, _-_}
 use lib.ListN.{set, replicate}
-use Rattle.words.specs.Below.{all, total, tabulate, concat}
+use Rattle.words.specs.Below.{all, total, tabulate}
 use Rattle.buffers.specs.LittleEndian.{numberAt}
 use Rattle.trail.specs.Kinds.{kindOf}
 use Rattle.trail.specs.Runs.{isStart}
@@ -12,7 +12,8 @@ use Rattle.sheet.specs.Asking.{Question, Verdict, verdict}
 use Rattle.sheet.specs.Asking.Verdict.{accepted, refused}
 use Rattle.sheet.specs.Fields.{formOf, headerOf, trailOf, recordOf, recordPosition}
 use Rattle.sheet.specs.Checks.{checkOf}
-use Rattle.sheet.specs.Questions.{within, zeroBytes, lengthQuestions, checkQuestions, marked, linesRight, inputRight, headerQuestions, operandsEarlier, operandsDiffer, amountRight, constantRight, unusedZero, xorsItself, kindAndOperandQuestions, selfXorQuestions, fieldQuestions, recordQuestions, lineQuestions, recordRest, blockRest, restQuestion, laterQuestions, questions, lineNumberQuestions, roomQuestions, startQuestions}
+use Rattle.sheet.specs.Questions.{within, zeroBytes, lengthQuestions, checkQuestion, checkQuestions, marked, linesRight, inputRight, headerQuestions, operandsEarlier, operandsDiffer, amountRight, constantRight, unusedZero, xorsItself, kindAndOperandQuestions, selfXorQuestions, fieldQuestions, recordQuestions, lineQuestions, recordRest, blockRest, restQuestion, laterQuestions, questions, lineNumberQuestions, roomQuestions, startQuestions}
+use Rattle.sheet.specs.declared.Form.the-variants.{Narrow}
 use Rattle.sheet.specs.declared.Header.{Header}
 use Rattle.sheet.specs.declared.Record.{Record}
 use Rattle.sheet.specs.declared.Mode.{Mode}
@@ -42,10 +43,14 @@ pub record Case : Type 0 where
 abbrev pub case : ℕ → ℕ → ℕ → ℕ → Case
 case i b n p = record { position = i; byte = b; number = n; place = p }
 
--- L 32 needs two line blocks. 507 is the last byte before the header's check, 512 and 528 the two lines' kinds, 534 in line 1's zero
--- field, 544 in the first record past L.
-abbrev pub cases : List Case
-cases =
+-- The answers are the cases'. What is asked takes the sheet and the place.
+abbrev pub Refused : (List ℕ → ℕ → List Question) → List Case → Type 0
+Refused asks cs =
+    map (λ (c : Case). verdict {A = ℕ} (asks (set twoLines (c .position) (c .byte)) (c .place)) 0) cs
+    ≡ map (λ (c : Case). refused (c .number) (c .place)) cs
+
+-- L 32 needs two line blocks; 507 is the last byte before the header's check.
+pub header-refusals : Refused (λ s k. questions Seal s) (
     case 3 0x55 3 0
     ∷ case 4 1 4 0
     ∷ case 4 33 4 0
@@ -53,20 +58,28 @@ cases =
     ∷ case 6 32 6 0
     ∷ case 12 1 7 0
     ∷ case 507 1 8 0
-    ∷ case 512 1 23 0
-    ∷ case 528 1 23 1
-    ∷ case 534 1 15 1
-    ∷ case 544 1 16 1
     ∷ []
+    )
+unfolding twoLines verdict within zeroBytes lengthQuestions checkQuestions marked linesRight inputRight headerQuestions laterQuestions questions all numberAt formOf
+header-refusals = refl
 
--- sealing's answer
-abbrev pub answer : List ℕ → Verdict Header
-answer s = verdict (questions Seal s) (headerOf s)
+-- What sealing asks of a line, at the line's place. 512 and 528 are the two lines' kinds, 534 is in line 1's zero field.
+pub line-refusals : Refused (λ s k. lineQuestions Seal s (headerOf s) k) (case 512 1 23 0 ∷ case 528 1 23 1 ∷ case 534 1 15 1 ∷ [])
+unfolding twoLines verdict within operandsEarlier operandsDiffer amountRight constantRight unusedZero xorsItself kindAndOperandQuestions selfXorQuestions fieldQuestions recordQuestions lineQuestions numberAt kindOf formOf recordOf recordPosition
+line-refusals = refl
 
-pub refusals : map (λ (c : Case). answer (set twoLines (c .position) (c .byte))) cases
-    ≡ map (λ (c : Case). refused (c .number) (c .place)) cases
-unfolding twoLines verdict within zeroBytes lengthQuestions checkQuestions marked linesRight inputRight headerQuestions operandsEarlier operandsDiffer amountRight constantRight unusedZero xorsItself kindAndOperandQuestions selfXorQuestions fieldQuestions recordQuestions lineQuestions recordRest blockRest restQuestion laterQuestions questions all concat numberAt kindOf formOf recordOf recordPosition
-refusals = refl
+-- 544 is in the first record past L, in line block 1.
+pub rest-refusals : Refused (λ s b. restQuestion s (headerOf s) (b - 1)) (case 544 1 16 1 ∷ [])
+unfolding twoLines verdict zeroBytes recordRest blockRest restQuestion all numberAt formOf
+rest-refusals = refl
+
+-- ---- lengths
+
+-- 1,024 and 4,608 bytes are long enough and not too long; 0, 512, 1,023 and 5,120 are refused.
+pub length-answers : map (λ (n : ℕ). verdict {A = ℕ} (lengthQuestions (replicate n 0)) 0) (1024 ∷ 4608 ∷ 0 ∷ 512 ∷ 1023 ∷ 5120 ∷ [])
+    ≡ accepted 0 ∷ accepted 0 ∷ refused 1 0 ∷ refused 1 0 ∷ refused 1 0 ∷ refused 1 0 ∷ []
+unfolding verdict lengthQuestions within
+length-answers = refl
 
 -- ---- one line, and its answer
 
@@ -81,9 +94,13 @@ lineCase k r x y c v = record {
   answer = v;
 }
 
+-- a line that states a difference
+abbrev pub stating : ℕ → Verdict ℕ → LineCase
+stating d v = record { line = record { kind = 2; amount = 0; first = 0; second = 0; zero = 0; constant = 0; difference = d }; answer = v }
+
 -- As line 1, which makes word 2 (document 02, W-201). No number past 9 is a kind. A shift, 7 or 8, is by 1, as words have two bits, and
 -- uses no second operand and no constant. A subtraction, 9, is of two different words before its own, and uses no amount and no
--- constant.
+-- constant. Constants and differences have two bits too.
 abbrev pub lineCases : List LineCase
 lineCases =
     lineCase 10 0 0 0 0 (refused 9 1)
@@ -103,6 +120,11 @@ lineCases =
     ∷ lineCase 7 1 0 0 1 (refused 15 1)
     ∷ lineCase 8 1 0 1 0 (refused 15 1)
     ∷ lineCase 9 0 1 0 0 (accepted 0)
+    ∷ lineCase 2 0 0 0 3 (accepted 0)
+    ∷ lineCase 2 0 0 0 4 (refused 13 1)
+    ∷ lineCase 6 0 0 0 4 (refused 13 1)
+    ∷ stating 3 (accepted 0)
+    ∷ stating 4 (refused 14 1)
     ∷ []
 
 -- of several faults the first question's
@@ -112,11 +134,14 @@ faultyCases =
     ∷ lineCase 7 0 2 0 0 (refused 10 1)
     ∷ lineCase 9 1 1 1 0 (refused 11 1)
     ∷ lineCase 7 0 0 1 0 (refused 12 1)
+    ∷ lineCase 7 0 0 0 1 (refused 12 1)
+    ∷ record { line = record { kind = 2; amount = 1; first = 0; second = 1; zero = 1; constant = 0; difference = 4 }; answer = refused 14 1 }
+    ∷ record { line = record { kind = 8; amount = 0; first = 0; second = 0; zero = 0; constant = 4; difference = 4 }; answer = refused 12 1 }
     ∷ []
 
--- the header of twoLines, with words of n bits
+-- a header as that of twoLines, with words of n bits
 abbrev pub headerAt : ℕ → Header
-headerAt n = headerOf (set twoLines 4 n)
+headerAt n = record { form = Narrow; blocks = 2; width = n; inputs = 1; lines = 2 }
 
 -- with words of eight bits shifts are by 1 to 7
 abbrev pub wideCases : List LineCase
@@ -176,6 +201,11 @@ self-xor-answers = (refl, refl)
 pub check-of-zeros : checkOf [] 7 ≡ 7
 unfolding checkOf total numberAt
 check-of-zeros = refl
+
+-- so a check of 0 is right in block 0 and wrong in block 1, whose place is 1
+pub check-answers : map (λ (b : ℕ). verdict {A = ℕ} (checkQuestion [] b) 0) (0 ∷ 1 ∷ []) ≡ accepted 0 ∷ refused 2 1 ∷ []
+unfolding verdict checkQuestion checkOf total numberAt
+check-answers = refl
 
 -- ---- the calls' own questions
 

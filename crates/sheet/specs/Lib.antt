@@ -4,5 +4,6 @@ pub mod Asking
 pub mod Fields
 pub mod Checks
 pub mod Questions
+pub mod InOrder
 pub mod SelfXor
 pub mod Facts

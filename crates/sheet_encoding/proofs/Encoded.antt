@@ -1,7 +1,7 @@
 -- The bytes of a trail are right: read piece by piece, and accepted by the law on checks.
 use mathlib.Core.Path.{_∙_}
 use Rattle.sheet_encoding.specs.Encoding.{encode, EncodingIsRight}
-use Rattle.sealing.proofs.Checked.{checked-accepted, checked-trail}
+use Rattle.sealed_sheets.proofs.Checked.{checked-accepted, checked-trail}
 use Rattle.sheet_encoding.proofs.Encoding.{encode-form, encode-trail}
 use Rattle.sheet_encoding.proofs.Questions.{length-asked, later-asked}
 

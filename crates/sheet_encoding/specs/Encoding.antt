@@ -13,7 +13,7 @@ use Rattle.trail.specs.WellFormed.{WellFormed, Sized}
 use Rattle.sheet.specs.Questions.{lineBlocks}
 use Rattle.sheet.specs.Fields.{formOf, headerOf, trailOf}
 use Rattle.sheet.specs.Questions.{IsAccepted}
-use Rattle.sealing.specs.Sealing.{withChecks}
+use Rattle.sealed_sheets.specs.Sealing.{withChecks}
 use Rattle.sheet.specs.declared.Form.{Form}
 
 -- a record: kind, amount (a byte each), first operand, second operand, zero (16 bits each), constant, difference; zeros up to its size

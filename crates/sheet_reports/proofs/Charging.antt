@@ -15,12 +15,13 @@ use Rattle.trail.specs.Repeats.{equalLines, isRepeat}
 use Rattle.trail.proofs.Repeats.{equal-lines, lines-equal}
 use Rattle.differential.specs.Report.{Report, reportMeans}
 use Rattle.differential.specs.declared.LineReport.{LineReport}
-use Rattle.charged_lines.specs.Charged.{lineNumbers, numbersOf, standsAt, isListed, costs}
-use Rattle.charged_lines.proofs.Charged.{stands-one, stands-written, stands-before}
-use Rattle.sheet_reports.specs.Lines.{lineReport}
-use Rattle.sheet_reports.specs.Totals.{Sums, rangeTotals, withReport}
+use Rattle.listed_lines.specs.Listed.{lineNumbers, numbersOf, standsAt, isListed}
+use Rattle.charged_lines.specs.Charged.{costs}
+use Rattle.listed_lines.proofs.Listed.{stands-one, stands-written, stands-before}
+use Rattle.trail_reports.specs.Lines.{lineReport}
+use Rattle.trail_reports.specs.Totals.{Sums, rangeTotals, withReport}
 use Rattle.sheet_reports.proofs.Sums.{totals-repeat, totals-next}
-use Rattle.sheet_reports.proofs.Demand2.{copies-report-alike}
+use Rattle.trail_reports.proofs.Demand2.{copies-report-alike}
 
 -- When k lines of the range that begins with line `from` are passed: each line of the list is one of them, and each of them that
 -- costs something is in the list.

@@ -1,6 +1,2 @@
-pub mod ProperLines
-pub mod SmallReports
-pub mod Matched
-pub mod Demand2
 pub mod Sums
 pub mod Charging

@@ -1,30 +1,23 @@
--- The totals line by line.
-use Prim.Native.Nat.{ℕ, zero, suc, _+_, _*_, _≤_, _<_}
+-- One line more in the totals, case by case as the code adds it.
+use Prim.Native.Nat.{ℕ, _+_, _*_}
 use native.Mathlib.Nat.{add-zero}
 use native.Mathlib.Numerals.{add-one}
 use native.Mathlib.Omega.{arith}
-use mathlib.Core.Path.{_≡_, refl, sym, ap, ap₂, subst, _∙_}
+use mathlib.Core.Path.{_≡_, refl, sym, ap, subst, _∙_}
 use mathlib.Core.Bool.{Bool, true, false, _&&_, cond, and-eq-true-iff, true≢false}
 use borrow.Author.Tests.{ltb-true, ne-eqb}
 use lib.Dec.{eqb, ltb}
 use Rattle.words.specs.Below.{count, total}
-use Rattle.words.proofs.Bits.{value-lt}
-use Rattle.words.proofs.Below.{any-cong, count-cong, total-cong}
 use Rattle.trail.specs.Trail.{Trail}
-use Rattle.trail.specs.Repeats.{equalLines, isRepeat}
+use Rattle.trail.specs.Repeats.{isRepeat}
 use Rattle.differential.specs.Unit.{unit}
 use Rattle.differential.specs.Report.{Report, impossible, certain, halves, counted, reportMeans}
 use Rattle.differential.specs.declared.LineReport.{LineReport}
 use Rattle.differential.specs.declared.LineReport.the-variants.{Impossible, Certain, Halves, Counted}
 use Rattle.charged_lines.specs.Charged.{costs}
-use Rattle.sheet_reports.specs.Lines.{lineReport}
-use Rattle.sheet_reports.specs.Totals.{Sums, rangeTotals, RangesAreLocal, withReport, SmallReport}
-
--- ---- one report more, case by case as the code adds it
-
-pub same-sums : {i j w x c d : ℕ} → i ≡ j → w ≡ x → c ≡ d
-    → _≡_ {A = Sums} (record { impossible = i; weight = w; chains = c }) (record { impossible = j; weight = x; chains = d })
-same-sums p q r k = record { impossible = p k; weight = q k; chains = r k }
+use Rattle.trail_reports.specs.Lines.{lineReport}
+use Rattle.trail_reports.specs.Totals.{Sums, rangeTotals, withReport}
+use Rattle.trail_reports.proofs.RangeTotals.{same-sums}
 
 module _ (s : Sums) where
   pub with-impossible : record { impossible = s .impossible + 1; weight = s .weight; chains = s .chains } ≡ withReport s impossible
@@ -41,13 +34,7 @@ module _ (s : Sums) where
       → record { impossible = s .impossible; weight = s .weight + weight; chains = s .chains + c } ≡ withReport s (counted weight c n)
   with-counted weight c n = same-sums (sym (add-zero (s .impossible))) refl refl
 
--- ---- a range of lines
-
--- the totals of k lines
-pub record SmallSums (k : ℕ) (s : Sums) : Type 0 where
-  pub impossible : s .impossible ≤ k
-  pub weight : s .weight ≤ unit * 32 * k
-  pub chains : s .chains ≤ 32 * k
+-- ---- a line more
 
 -- a report with neither halves nor a count has no weight and no chains
 pub costs-nothing : (r : LineReport) → costs (reportMeans r) ≡ false → (reportMeans r .weight ≡ 0) × (reportMeans r .chains ≡ 0)
@@ -57,10 +44,6 @@ costs-nothing (Halves _) e = absurd (true≢false e)
 costs-nothing (Counted _ _ _) e = absurd (true≢false e)
 
 module _ (t : Trail) (from : ℕ) where
-  pub totals-none : record { impossible = 0; weight = 0; chains = 0 } ≡ rangeTotals t from 0
-  unfolding rangeTotals count total
-  totals-none = refl
-
   -- a line more that costs something and is a repeat
   pub totals-repeat : (k : ℕ) → (costs (lineReport t (from + k)) && isRepeat t from k) ≡ true
       → rangeTotals t from k ≡ rangeTotals t from (k + 1)
@@ -89,33 +72,3 @@ module _ (t : Trail) (from : ℕ) where
           at false dear d f = (refl, refl)
           at true true d f = absurd (true≢false f)
           at true false d f = subst (λ (z : Report). (z .weight ≡ 0) × (z .chains ≡ 0)) means (costs-nothing r (ap costs means ∙ d))
-
-  -- what k small reports sum up to
-  pub totals-small : (k : ℕ) → ((i : ℕ) → i < k → SmallReport (lineReport t (from + i))) → SmallSums k (rangeTotals t from k)
-  unfolding rangeTotals count total
-  totals-small zero h = record { impossible = omega arith; weight = omega arith; chains = omega arith }
-  totals-small (suc k) h =
-      let before = totals-small k (λ i l. h i (omega arith)) in
-      let here = h k (omega arith) in
-      record {
-        impossible = omega (arith, before .impossible, value-lt (eqb (lineReport t (from + k) .number) 0));
-        weight = omega (arith, before .weight, here .weight, at-most (isRepeat t from k) (lineReport t (from + k) .weight));
-        chains = omega (arith, before .chains, here .chains, at-most (isRepeat t from k) (lineReport t (from + k) .chains));
-      }
-    where
-      at-most : (repeated : Bool) (n : ℕ) → cond repeated 0 n ≤ n
-      at-most true n = omega arith
-      at-most false n = omega arith
-
--- ---- two ranges with the same lines and reports
-
-pub ranges-are-local : RangesAreLocal
-unfolding rangeTotals isRepeat
-ranges-are-local t from r start lines same reports =
-    same-sums
-    (count-cong lines _ _ (λ k l. ap (λ (z : Report). eqb (z .number) 0) (reports k l)))
-    (total-cong lines _ _ (λ k l. ap₂ (λ (b : Bool) (z : Report). cond b 0 (z .weight)) (repeats k l) (reports k l)))
-    (total-cong lines _ _ (λ k l. ap₂ (λ (b : Bool) (z : Report). cond b 0 (z .chains)) (repeats k l) (reports k l)))
-  where
-    repeats : (k : ℕ) → k < lines → isRepeat t from k ≡ isRepeat r start k
-    repeats k l = any-cong k _ _ (λ i less. ap₂ equalLines (same i (omega arith)) (same k l))

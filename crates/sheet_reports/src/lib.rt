@@ -5,9 +5,10 @@ ghost use Prim.Native.Nat.{_<_, _^_};
 ghost use Rattle.sheet.specs.Fields.{trailOf};
 ghost use Rattle.sheet.specs.Facts.{SheetRead};
 ghost use Rattle.differential.specs.Report.{reportMeans};
-ghost use Rattle.sheet_reports.specs.Lines.{differentialOf, lineReport};
-ghost use Rattle.sheet_reports.specs.Totals.{sumsOf, sheetTotals, withReport, SmallReport};
+ghost use Rattle.trail_reports.specs.Lines.{differentialOf, lineReport};
+ghost use Rattle.trail_reports.specs.Totals.{sumsOf, sheetTotals, withReport, SmallReport};
 use charged_lines::CHARGED_NUMBERS;
+use charged_lines::MARKS;
 use charged_lines::charge;
 use charged_lines::is_charged;
 use differential::Differential;
@@ -17,14 +18,8 @@ use line_reports::report;
 use sheet::Header;
 use sheet_fields::lines::difference_at;
 use sheet_fields::lines::line_at;
+use trail_reports::Totals;
 use units::in_sixteenths;
-
-// The impossible lines, and the sums of weights and chains, repeats left out.
-pub struct Totals {
-    pub impossible: u32,
-    pub weight: Sixteenths,
-    pub chains: u32,
-}
 
 // Line k's differential.
 pub fn differential_at(sheet: &[u8], header: Header, k: usize) -> Differential
@@ -58,6 +53,7 @@ pub fn sum_reports(sheet: &[u8], header: Header) -> Totals
     let lines = header.lines;
     let mut charged = [0u64; CHARGED_NUMBERS];
     let mut count = 0;
+    let mut marks = [0u8; MARKS];
     let mut sums = Totals {
         impossible: 0,
         weight: Sixteenths(0),
@@ -68,8 +64,8 @@ pub fn sum_reports(sheet: &[u8], header: Header) -> Totals
         let differential = differential_at(sheet, header, k);
         let line = differential.line;
         let report = report(differential);
-        if !is_charged(&charged, count, line, report) {
-            count = charge(&mut charged, count, line, report);
+        if !is_charged(&charged, count, &marks, line, report) {
+            count = charge(&mut charged, count, &mut marks, line, report);
             let next = with_line(sums, report);
             sums = next;
         }

@@ -12,7 +12,7 @@ ghost use Rattle.sheet.specs.Fields.{trailOf};
 ghost use Rattle.sheet.specs.Facts.{SheetRead};
 ghost use Rattle.sheet_runs.specs.Outcome.{outcome};
 ghost use Rattle.sheet_runs.specs.Outcome.{outcomeMeans};
-ghost use Rattle.sheet_runs.specs.Facts.{Holds, withLine};
+ghost use Rattle.sheet_runs.specs.Facts.{Holds, withLine, NoOnes};
 use crate::RunsOutcome;
 use crate::Words;
 use crate::start::begin;
@@ -37,8 +37,9 @@ pub fn run_lines(sheet: &[u8], header: Header, start: &[u64]) -> RunsOutcome
             break 'lines RunsOutcome::Follows;
         }
         let apart = run_line(sheet, header, k, &mut first, &mut second);
+        let asked = bits_asked(apart, n);
         let mut i = 0u32;
-        'bits: while i < n {
+        'bits: while i < asked {
             if arithmetic::bit(apart, i) {
                 break 'lines RunsOutcome::Disagree(k, i);
             }
@@ -46,6 +47,16 @@ pub fn run_lines(sheet: &[u8], header: Header, start: &[u64]) -> RunsOutcome
         }
         k += 1;
     }
+}
+
+// How many of the bits have to be gone through: none where all agree, as in nearly every line of a trail that is followed.
+fn bits_asked(apart: u64, n: u32) -> u32
+    ensures { λ r. ⌜ (r ≤ n) × NoOnes apart r n ⌝ }
+{
+    if apart == 0 {
+        return 0;
+    }
+    n
 }
 
 // Makes line k's word in both runs. The answer has a 1 in each bit where the results' difference is not the stated one.

@@ -12,8 +12,8 @@ use Rattle.trail.specs.Trail.{Trail, lineCount}
 use Rattle.sheet.specs.Fields.{headerOf}
 use Rattle.sheet.specs.Questions.{lineBlocks}
 use Rattle.sheet.specs.declared.Form.{Form}
-use Rattle.sealing.specs.Sealing.{withChecks}
-use Rattle.sealing.proofs.WrittenChecks.{checks-same}
+use Rattle.sealed_sheets.specs.Sealing.{withChecks}
+use Rattle.sealed_sheets.proofs.WrittenChecks.{checks-same}
 use Rattle.sheet_encoding.specs.Encoding.{headerBlock, lineBlock, encode, sheetOf}
 use Rattle.sheet_encoding.proofs.Encoding.{header-length, encode-length}
 

@@ -1,4 +1,4 @@
--- A refusal's text has at most 64 bytes; and two refusals, by computation.
+-- A refusal's text has at most 64 bytes; and four refusals, by computation.
 use Prim.Native.Nat.{ℕ, _^_, _≤_, _<_}
 use native.Mathlib.Omega.{arith}
 use mathlib.Core.Path.{_≡_, refl}
@@ -27,7 +27,8 @@ pub record RefusalsAsText : Type 0 where
   pub of-block : refusalText 2 7 ≡ ascii "refused 2 7\n"
   pub of-line : refusalText 23 247 ≡ ascii "refused 23 247\n"
   pub of-no-place : refusalText 18 0 ≡ ascii "refused 18 0\n"
+  pub of-most : refusalText 4294967295 18446744073709551615 ≡ ascii "refused 4294967295 18446744073709551615\n"
 
 pub refusals-as-text : RefusalsAsText
 unfolding refusalText spaced decimal digits ascii
-refusals-as-text = record { of-block = refl; of-line = refl; of-no-place = refl }
+refusals-as-text = record { of-block = refl; of-line = refl; of-no-place = refl; of-most = refl }

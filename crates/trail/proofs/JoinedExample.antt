@@ -16,7 +16,7 @@ first = record {
   lines = record { kind = 1; amount = 0; first = 0; second = 1; constant = 0; difference = 3 } ∷ [];
 }
 
--- The inputs are words 2 and 1 of the first. The lines make words 2 to 5, in the joined trail 3 to 6.
+-- The inputs are words 2 and 1 of the first. The lines make words 2 to 6, in the joined trail 3 to 7.
 abbrev second : Trail
 second = record {
   width = 8;
@@ -26,6 +26,7 @@ second = record {
       ∷ record { kind = 1; amount = 0; first = 2; second = 0; constant = 0; difference = 2 }
       ∷ record { kind = 3; amount = 1; first = 3; second = 0; constant = 0; difference = 4 }
       ∷ record { kind = 6; amount = 0; first = 1; second = 0; constant = 5; difference = 2 }
+      ∷ record { kind = 5; amount = 0; first = 2; second = 1; constant = 0; difference = 3 }
       ∷ [];
 }
 
@@ -42,6 +43,7 @@ pub example-joined : joined first second names .lines
     ∷ record { kind = 1; amount = 0; first = 3; second = 2; constant = 0; difference = 2 }
     ∷ record { kind = 3; amount = 1; first = 4; second = 0; constant = 0; difference = 4 }
     ∷ record { kind = 6; amount = 0; first = 1; second = 0; constant = 5; difference = 2 }
+    ∷ record { kind = 5; amount = 0; first = 3; second = 1; constant = 0; difference = 3 }
     ∷ []
 unfolding joinedWord kindOf
 example-joined = refl

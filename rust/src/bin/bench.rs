@@ -11,7 +11,7 @@
 //!
 //! Clause text by parts is the archive's own text of each part, written into one
 //! lent buffer; beside it the reference's lists go through this package's fast
-//! writer of text, as the archive's do in the rows by calls.
+//! writer of text, as the archive's do in the rows by lists.
 //!
 //! Below stand the times of totals measured by the report of the same sheet,
 //! medians over the rounds again, and how long the archive may take at most.
@@ -51,6 +51,8 @@ fn main() {
     }
     let mut cases = [
         Case::new("read, all kinds mixed", read(&mixed)),
+        Case::new("seal, all kinds mixed", seal(&mixed)),
+        Case::new("one report, mixed", line_report(&mixed)),
         Case::new("report, all kinds mixed", report(&mixed)),
         Case::new("totals, all kinds mixed", totals(&mixed)),
         Case::new("report, kind 5 only", report(&additions)),
@@ -60,13 +62,15 @@ fn main() {
         Case::new("report, kind 5, few operands", report(&few_operands)),
         Case::new("totals, kind 5, few operands", totals(&few_operands)),
         Case::new("report, kind 6 only", report(&constants)),
+        Case::new("two runs that follow, mixed", two_runs(&mixed)),
+        Case::new("clause counts, mixed", clause_counts(&mixed)),
         Case::new("one list, kind 5", list(&additions)),
         Case::new("one list, kind 6", list(&constants)),
         Case::new("join, 124 + 124 lines, mixed", join(&halves)),
     ];
     let mut long_cases = [
-        Case::new("clause text by calls, mixed", text_by_calls(&mixed)),
-        Case::new("clause text by calls, kind 5", text_by_calls(&additions)),
+        Case::new("clause text by lists, mixed", text_by_lists(&mixed)),
+        Case::new("clause text by lists, kind 5", text_by_lists(&additions)),
         Case::of_reference("the same, sheet read once", text_of_one_reading(&additions)),
         Case::new("clause text by parts, mixed", clause_text(&mixed)),
         Case::new("clause text by parts, kind 5", clause_text(&additions)),
@@ -135,8 +139,11 @@ type TextPart = fn(&[u8], usize, &mut [u8]) -> Outcome;
 #[derive(Clone, Copy)]
 struct Calls {
     read: fn(&[u8]) -> Outcome,
+    seal: fn(&mut [u8]) -> Outcome,
+    line_report: fn(&[u8], usize, &mut [u8]) -> Outcome,
     report: fn(&[u8], &mut [u8]) -> Outcome,
     totals: fn(&[u8], &mut [u64]) -> Outcome,
+    two_runs: fn(&[u8], &[u64], &mut [u64]) -> Outcome,
     clause_counts: fn(&[u8], &mut [u64]) -> Outcome,
     line_clauses: fn(&[u8], usize, &mut [i32]) -> Outcome,
     /// None where the lists go through the fast writer of text instead.
@@ -147,8 +154,11 @@ struct Calls {
 
 const REFERENCE: Calls = Calls {
     read: reference::read,
+    seal: reference::seal,
+    line_report: reference::line_report,
     report: reference::report,
     totals: reference::totals,
+    two_runs: reference::two_runs,
     clause_counts: reference::clause_counts,
     line_clauses: reference::line_clauses,
     clause_text_part: None,
@@ -159,8 +169,11 @@ const REFERENCE: Calls = Calls {
 #[cfg(has_archive)]
 const ARCHIVE: Option<Calls> = Some(Calls {
     read: tablegull::slices::read,
+    seal: tablegull::slices::seal,
+    line_report: tablegull::slices::line_report,
     report: tablegull::slices::report,
     totals: tablegull::slices::totals,
+    two_runs: tablegull::slices::two_runs,
     clause_counts: tablegull::slices::clause_counts,
     line_clauses: tablegull::slices::line_clauses,
     clause_text_part: Some(tablegull::slices::clause_text_part),
@@ -174,6 +187,43 @@ const ARCHIVE: Option<Calls> = None;
 fn read(sheet: &[u8]) -> impl FnMut(Calls) + '_ {
     move |calls| {
         black_box((calls.read)(black_box(sheet))).expect("accepted");
+    }
+}
+
+/// Sealed again and again, which changes no byte.
+fn seal(sheet: &[u8]) -> impl FnMut(Calls) {
+    let mut sheet = sheet.to_vec();
+    move |calls| {
+        black_box((calls.seal)(black_box(&mut sheet))).expect("accepted");
+    }
+}
+
+/// The report of the last line.
+fn line_report(sheet: &[u8]) -> impl FnMut(Calls) + '_ {
+    let mut out = [0; LINE_REPORT];
+    move |calls| {
+        (calls.line_report)(black_box(sheet), MAX_LINES - 1, &mut out).expect("accepted");
+        black_box(&out);
+    }
+}
+
+/// From the starting value that the sheet was made with: it follows, so that all
+/// lines are run.
+fn two_runs(sheet: &[u8]) -> impl FnMut(Calls) + '_ {
+    let mut random = Random(1);
+    let start: Vec<u64> = (0..8).map(|_| random.word().into()).collect();
+    let mut out = [0; 3];
+    move |calls| {
+        (calls.two_runs)(black_box(sheet), black_box(&start), &mut out).expect("accepted");
+        assert_eq!(black_box(&out), &[1, 0, 0]);
+    }
+}
+
+fn clause_counts(sheet: &[u8]) -> impl FnMut(Calls) + '_ {
+    let mut out = [0; 2];
+    move |calls| {
+        (calls.clause_counts)(black_box(sheet), &mut out).expect("accepted");
+        black_box(&out);
     }
 }
 
@@ -214,7 +264,7 @@ fn join(sheets: &[Vec<u8>; 2]) -> impl FnMut(Calls) + '_ {
 }
 
 /// A whole sheet's clause text, one call for each line's list.
-fn text_by_calls(sheet: &[u8]) -> impl FnMut(Calls) + '_ {
+fn text_by_lists(sheet: &[u8]) -> impl FnMut(Calls) + '_ {
     let mut text = TextWriter::new(dev_null());
     let mut out = [0; MAX_LINE_CLAUSES];
     move |calls| {

@@ -1,9 +1,9 @@
 //! The trail checker in plain Rust, written from documents 01 and 02; all but
-//! joining and question 23 from these alone.
+//! joining, question 23 and the texts from these alone.
 //!
 //! The calls have the signatures and the order of refusals of the archive's
-//! calls at the root of this crate. They share no code with the archive, so
-//! that the two can be held against each other.
+//! calls in the module `slices`. They share no code with the archive, so that
+//! the two can be held against each other.
 //!
 //! [`Sheet`] reads once and answers many times, for programs that go through
 //! all lines.

@@ -1,13 +1,14 @@
--- The part of the list is as long as the line's numbers, so it is overwritten whole. A report that costs nothing leaves the list as it is.
+-- The part of the list is as long as the line's numbers, so it is overwritten whole, and the mark is set at the line's place. A report
+-- that costs nothing leaves list and marks as they are.
 use Prim.Native.Nat.{ℕ, _+_, _*_, _-_, _≤_}
 use native.Mathlib.Omega.{arith}
 use mathlib.Core.Path.{_≡_, refl, sym, ap, _∙_}
 use mathlib.Core.List.{List}
-use lib.ListN.{length, take, drop, length-drop}
+use lib.ListN.{length, take, drop, set, length-drop}
 use lib.Seq.{length-take-le}
 use borrow.Rule.Slice.PartMut.{putMid}
 use Rattle.buffers.proofs.Overwrite.{overwrite-all, overwrite-part}
-use Rattle.charged_lines.specs.Charged.{lineNumbers, numbersOf}
+use Rattle.listed_lines.specs.Listed.{lineNumbers, numbersOf}
 use borrow.Author.Needs.{needs}
 use Rattle.charged_lines.proofs.charge.Statement.{statement}
 use Rattle.charged_lines.proofs.charge.Tie as tie
@@ -49,6 +50,12 @@ put-all-requires c κs =
     let a = c .before .before .before .before .before .before .args in
     omega (arith, ap length (c .before .before .numbers-of .ensures), part-length (lineNumbers * a .count) (a .charged .now) (c .before .before .before .before .before .before .pre))
 
+mark-of-requires : tie.Need-mark-of-requires
+mark-of-requires c κs = search needs
+
+element-write-marks : tie.Need-element-write-marks
+element-write-marks c = search needs
+
 add-result : tie.Need-add-result
 add-result c = search needs
 
@@ -57,18 +64,21 @@ same-length c = search needs
 
 returns : tie.Need-returns
 returns c =
-    let a = c .before .before .before .before .before .before .before .before .before .args in
+    let start = c .before .before .before .before .before .before .before .before .before .before in
+    let a = start .args in
     let s : List ℕ = a .charged .now in
     let new : List ℕ = numbersOf (a .line) in
     let at : ℕ = lineNumbers * a .count in
     let size : ℕ = at + lineNumbers - at in
     let part : List ℕ = take size (drop at s) in
-    let numbers : c .before .before .before .before .before .numbers-of .result ≡ new = c .before .before .before .before .before .numbers-of .ensures in
-    let whole : c .before .before .put-all .last .0 ≡ new = c .before .before .put-all .ensures .now-is ∙ overwrite-all _ part (ap length numbers ∙ sym (part-length at s (c .before .before .before .before .before .before .before .before .before .pre))) ∙ numbers in
-    rw (sym (c .before .before .before .before .before .before .before .costs .ensures) ∙ c .before .before .before .before .before .before .if1 .taken) (refl, ap (putMid at size s) whole ∙ overwrite-part at size s new (omega arith))
+    let made = c .before .before .before .before .before .before .numbers-of in
+    let numbers : made .result ≡ new = made .ensures in
+    let whole : c .before .before .before .put-all .last .0 ≡ new = c .before .before .before .put-all .ensures .now-is ∙ overwrite-all _ part (ap length numbers ∙ sym (part-length at s (start .pre))) ∙ numbers in
+    rw (sym (c .before .before .before .before .before .before .before .before .costs .ensures) ∙ c .before .before .before .before .before .before .before .if1 .taken)
+    (refl, ap (putMid at size s) whole ∙ overwrite-part at size s new (omega arith), ap (λ (i : ℕ). set (a .marks .now) i 1) (c .mark-of .ensures .0))
 
 returns-2 : tie.Need-returns-2
-returns-2 c = rw (sym (c .before .costs .ensures) ∙ c .if1 .left) (refl, refl)
+returns-2 c = rw (sym (c .before .costs .ensures) ∙ c .if1 .left) (refl, refl, refl)
 
 pub charge-spec : {M : Type 1} → statement M
 charge-spec =
@@ -84,6 +94,8 @@ charge-spec =
     part-put-all-end
     slice-aggregate-put-all
     put-all-requires
+    mark-of-requires
+    element-write-marks
     add-result
     same-length
     returns

@@ -7,7 +7,7 @@ use Rattle.trail.specs.declared.Line.{Line}
 use Rattle.trail.specs.Trail.{Trail, lineAt, differenceAt}
 use Rattle.differential.specs.declared.Differential.{Differential}
 use Rattle.sheet.specs.Fields.{trailOf}
-use Rattle.sheet_reports.specs.Lines.{differentialOf}
+use Rattle.trail_reports.specs.Lines.{differentialOf}
 use Rattle.clause_sizes.proofs.SheetCounts.{before-most}
 use Rattle.line_clauses.proofs.SameRun.{second-run-is}
 use Rattle.line_clauses.proofs.second_run.Statement.{statement}

@@ -1,7 +1,7 @@
 -- Each report's fields are written by one call.
 use native.Mathlib.Omega.{arith}
 use borrow.Author.Needs.{needs}
-use Rattle.sheet_reports.proofs.Matched.{small-found}
+use Rattle.trail_reports.proofs.Matched.{small-found}
 use Rattle.report_buffer.proofs.MatchedBytes.{bytes-given}
 use Rattle.report_buffer.proofs.put_report.Tie as tie
 use Rattle.report_buffer.proofs.put_report.Statement.{statement}

@@ -11,10 +11,10 @@ use Rattle.differential.specs.Report.{Report}
 use Rattle.sheet.specs.declared.Header.{Header}
 use Rattle.sheet.specs.Fields.{trailOf}
 use Rattle.sheet.proofs.TrailParts.{trail-lines}
-use Rattle.sheet_reports.specs.Lines.{lineReport}
-use Rattle.sheet_reports.specs.Totals.{SmallReport}
+use Rattle.trail_reports.specs.Lines.{lineReport}
+use Rattle.trail_reports.specs.Totals.{SmallReport}
 use Rattle.report_buffer.specs.Buffer.{reportBytes, sheetBytes}
-use Rattle.sheet_reports.proofs.Demand2.{sheet-report-small}
+use Rattle.trail_reports.proofs.Demand2.{sheet-report-small}
 use Rattle.report_buffer.proofs.ReportBytes.{reports-none, reports-place, reports-next}
 use Rattle.report_buffer.proofs.put_reports.Tie as tie
 use Rattle.report_buffer.proofs.put_reports.Statement.{statement}

@@ -2,7 +2,7 @@
 use borrow.Author.Needs.{needs}
 use mathlib.Core.Path.{subst}
 use Rattle.buffers.specs.Overwrite.{Wrote}
-use Rattle.sheet_reports.specs.Totals.{Sums}
+use Rattle.trail_reports.specs.Totals.{Sums}
 use Rattle.report_c.specs.Calls.{totalsNumbers}
 use Rattle.answers.proofs.Calling.{calling, c-kept, c-written}
 use Rattle.report_c.proofs.totals.Statement.{statement}

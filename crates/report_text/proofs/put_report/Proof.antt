@@ -9,7 +9,7 @@ use Rattle.buffers.proofs.Appending.{Left}
 use Rattle.decimal.specs.Ascii.{ascii}
 use Rattle.differential.specs.Report.{reportMeans}
 use Rattle.differential.specs.declared.LineReport.{LineReport}
-use Rattle.sheet_reports.proofs.Matched.{small-found}
+use Rattle.trail_reports.proofs.Matched.{small-found}
 use Rattle.report_file.specs.Text.{nameText, lineText}
 use Rattle.buffers.proofs.Appending.{left-room, left-last}
 use Rattle.report_text.proofs.Lines.{fieldsText, number-room, line-left}

@@ -2,10 +2,10 @@
 use mathlib.Core.Path.{sym, ap, _∙_, subst}
 use borrow.Author.Needs.{needs}
 use Rattle.sheet.specs.Questions.{questions}
-use Rattle.sealing.specs.Sealing.{withChecks}
+use Rattle.sealed_sheets.specs.Sealing.{withChecks}
 use Rattle.sheet.specs.Facts.{Whole}
 use Rattle.sheet.proofs.Asking.{yes-left, no-verdict}
-use Rattle.sealing.proofs.WrittenChecks.{sealed-yes, sealed-no}
+use Rattle.sealed_sheets.proofs.WrittenChecks.{sealed-yes, sealed-no}
 use Rattle.sheet.proofs.Settled.{whole}
 use Rattle.sheet.specs.declared.Header.{Header}
 use Rattle.answers.specs.Answers.{readingMeans}

@@ -4,8 +4,8 @@ use Prim.Native.Nat.{_-_, _≤_}
 use mathlib.Core.Path.{_≡_, refl, _∙_}
 use lib.ListN.{length}
 use borrow.Author.Needs.{needs}
-use Rattle.sealing.specs.Sealing.{withChecks}
-use Rattle.sealing.proofs.WrittenChecks.{checks-none, checks-next}
+use Rattle.sealed_sheets.specs.Sealing.{withChecks}
+use Rattle.sealed_sheets.proofs.WrittenChecks.{checks-none, checks-next}
 use Rattle.sheet.proofs.Testing.{same-end}
 use Rattle.sealing.proofs.write_checks.Tie as tie
 use Rattle.sealing.proofs.write_checks.Statement.{statement}

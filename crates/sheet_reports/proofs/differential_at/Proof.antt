@@ -12,7 +12,7 @@ use Rattle.sheet.specs.declared.Header.{Header}
 use Rattle.sheet.specs.Fields.{trailOf}
 use Rattle.sheet.specs.Facts.{SheetRead}
 use Rattle.sheet.proofs.WellFormed.{line-at-right}
-use Rattle.sheet_reports.specs.Lines.{differentialOf}
+use Rattle.trail_reports.specs.Lines.{differentialOf}
 use Rattle.sheet_reports.proofs.differential_at.Tie as tie
 use Rattle.sheet_reports.proofs.differential_at.Statement.{statement}
 

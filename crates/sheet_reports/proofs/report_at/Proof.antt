@@ -3,8 +3,8 @@ use mathlib.Core.Path.{ap, _∙_}
 use native.Mathlib.Omega.{arith}
 use borrow.Author.Needs.{needs}
 use Rattle.differential.specs.Report.{reportOf}
-use Rattle.sheet_reports.specs.Lines.{lineReport}
-use Rattle.sheet_reports.proofs.ProperLines.{report-asks}
+use Rattle.trail_reports.specs.Lines.{lineReport}
+use Rattle.trail_reports.proofs.ProperLines.{report-asks}
 use Rattle.sheet_reports.proofs.report_at.Tie as tie
 use Rattle.sheet_reports.proofs.report_at.Statement.{statement}
 

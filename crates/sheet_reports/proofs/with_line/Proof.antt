@@ -1,7 +1,7 @@
 -- Each report adds to the totals what its values say.
 use native.Mathlib.Omega.{arith}
 use borrow.Author.Needs.{needs}
-use Rattle.sheet_reports.proofs.Matched.{small-found, sums-given}
+use Rattle.trail_reports.proofs.Matched.{small-found, sums-given}
 use Rattle.sheet_reports.proofs.Sums.{with-impossible, with-certain, with-halves, with-counted}
 use Rattle.sheet_reports.proofs.with_line.Tie as tie
 use Rattle.sheet_reports.proofs.with_line.Statement.{statement}

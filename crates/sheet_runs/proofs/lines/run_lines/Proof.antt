@@ -3,6 +3,7 @@ use Prim.Native.Nat.{ℕ, _+_, _-_, _≤_, _<_}
 use mathlib.Core.Path.{_≡_, refl, sym, ap, _∙_}
 use mathlib.Core.Bool.{true, false}
 use mathlib.Core.List.{List}
+use native.Mathlib.Decide.{decLt}
 use native.Mathlib.Omega.{arith}
 use borrow.Author.Needs.{needs}
 use borrow.Author.Count.{below-none, below-more}
@@ -20,10 +21,10 @@ use Rattle.sheet_runs.proofs.lines.run_lines.Statement.{statement}
 use Rattle.sheet_runs.proofs.lines.run_lines.Tie as tie
 
 abbrev Inv-bits : tie.InvT-bits
-Inv-bits sheet header start first second lines n k apart i₀ i = (i ≤ n) × ((j : ℕ) → j < i → bit apart j ≡ false)
+Inv-bits sheet header start first second lines n k apart asked i₀ i = (i ≤ asked) × ((j : ℕ) → j < i → bit apart j ≡ false)
 
 abbrev μ-bits : tie.MeasureT-bits
-μ-bits sheet header start first second lines n k apart i₀ i = n - i
+μ-bits sheet header start first second lines n k apart asked i₀ i = asked - i
 
 abbrev Inv-lines : tie.InvT-lines
 Inv-lines sheet header start first₀ second₀ lines n k₀ first second k =
@@ -67,6 +68,9 @@ run-line-requires c κs =
       holds (at .second) (made-holds good (partner (trailOf s) x) (partner-start good x (start .pre .1)) (inputCount (trailOf s) + at .k) (at .second) (omega arith) (at .inv .2)),
     )
 
+bits-asked-requires : tie.Need-bits-asked-requires Inv-bits μ-bits Inv-lines μ-lines
+bits-asked-requires c κs = search needs
+
 bits-holds : tie.Need-bits-holds Inv-bits μ-bits Inv-lines μ-lines
 bits-holds c = (search needs, below-none _)
 
@@ -91,8 +95,8 @@ lines-less c = search needs
 
 lines-again : tie.Need-lines-again Inv-bits μ-bits Inv-lines μ-lines
 lines-again c =
-    let start = c .before .before .before .before .before .before .before .before .before .before .before .before in
-    let at = c .before .before .before .before .before .before .lines in
+    let start = c .before .before .before .before .before .before .before .before .before .before .before .before .before in
+    let at = c .before .before .before .before .before .before .before .lines in
     let s = start .args .sheet .now in
     let h = start .args .header in
     let read = start .pre .0 in
@@ -101,11 +105,14 @@ lines-again c =
     let good = read .well-formed in
     let less : at .k < lineCount t = omega arith in
     let room : inputCount t + at .k < mostWords = omega arith in
-    let made = c .before .before .run-line .ensures in
+    let made = c .before .before .before .run-line .ensures in
     let agrees : (i : ℕ) → i < t .width → disagrees t x (at .k) i ≡ false =
     λ i l. sym (apart-bit good x (start .pre .1) (at .k) less (at .inv .1) (at .inv .2) i)
     ∙ ap (λ (a : ℕ). bit a i) (sym (made .2))
-    ∙ c .before .bits .inv .1 i (omega arith) in (
+    ∙ elim (decLt i (c .before .bits .i)) [
+      | yes passed ↦ c .before .bits .inv .1 i passed
+      | no more ↦ c .before .before .bits-asked .ensures .1 .none i (omega arith) (omega arith)
+    ] in (
       search needs,
       made-line good x (start .pre .1) (at .k) less room (at .inv .1) (made .0),
       made-line good (partner t x) (partner-start good x (start .pre .1)) (at .k) less room (at .inv .2) (made .1),
@@ -122,8 +129,8 @@ returns c =
 
 returns-2 : tie.Need-returns-2 Inv-bits μ-bits Inv-lines μ-lines
 returns-2 c =
-    let start = c .before .before .before .before .before .before .before .before .before .before .before .before .before .before in
-    let at = c .before .before .before .before .before .before .before .before .lines in
+    let start = c .before .before .before .before .before .before .before .before .before .before .before .before .before .before .before in
+    let at = c .before .before .before .before .before .before .before .before .before .lines in
     let s = start .args .sheet .now in
     let h = start .args .header in
     let read = start .pre .0 in
@@ -132,9 +139,9 @@ returns-2 c =
     let i = c .before .before .before .bits .i in
     let good = read .well-formed in
     let less : at .k < lineCount t = omega arith in
-    let apart : (j : ℕ) → disagrees t x (at .k) j ≡ bit (c .before .before .before .before .run-line .result) j =
+    let apart : (j : ℕ) → disagrees t x (at .k) j ≡ bit (c .before .before .before .before .before .run-line .result) j =
     λ j. sym (apart-bit good x (start .pre .1) (at .k) less (at .inv .1) (at .inv .2) j)
-    ∙ ap (λ (a : ℕ). bit a j) (sym (c .before .before .before .before .run-line .ensures .2)) in
+    ∙ ap (λ (a : ℕ). bit a j) (sym (c .before .before .before .before .before .run-line .ensures .2)) in
     sym (outcome-disagrees t x (at .k) i (record {
       line-below = less;
       earlier-follow = at .inv .3;
@@ -154,6 +161,7 @@ run-lines-spec =
     begin-requires
     lines-holds
     run-line-requires
+    bits-asked-requires
     bits-holds
     bit-requires
     add-i
