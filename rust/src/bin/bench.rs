@@ -28,8 +28,7 @@ use tablegull::{
     Refusal, LINE_REPORT, MAX_CLAUSE_TEXT, MAX_LINES, MAX_LINE_CLAUSES, MAX_REPORT_TEXT, MAX_SHEET,
 };
 
-/// Rounds of what takes microseconds. What takes milliseconds has one round in
-/// so many of these.
+/// Rounds of single calls. Whole texts have one round in so many of these.
 const ROUNDS: usize = 240;
 const ROUNDS_TO_A_LONG_ONE: usize = 4;
 
@@ -547,8 +546,7 @@ fn sealed(differences: &[u32], lines: &[Line]) -> Vec<u8> {
     sheet.seal().expect("an accepted sheet")
 }
 
-/// Every line has a weight, and no line is a repeat: each has to be compared
-/// with those before it.
+/// Every line has a weight, and no line is a repeat: each is charged.
 fn assert_every_line_charged(sheet: &[u8]) {
     let sheet = Sheet::read(sheet).expect("accepted");
     let weights: Vec<u32> = (0..sheet.line_count())
