@@ -3,20 +3,18 @@
 use Prim.Native.Nat.{ℕ, _+_, _*_, _-_, _/_, _%_, _<_, _≤_}
 use native.Mathlib.Omega.{arith}
 use mathlib.Core.Path.{_≡_, sym, ap, ap₂, _∙_}
-use mathlib.Core.Bool.{_&&_, _||_, cond}
 use mathlib.Core.List.{List, [], _∷_, _++_}
-use lib.Dec.{eqb, ltb}
-use Rattle.words.specs.Words.{isWord}
-use Rattle.words.specs.Below.{all, tabulate}
-use Rattle.words.proofs.Below.{all-cong, tabulate-cong, concat-cong}
+use Rattle.words.specs.Below.{tabulate}
+use Rattle.words.proofs.Below.{tabulate-cong, concat-cong}
 use Rattle.sheet.specs.Asking.{ask}
 use Rattle.sheet.specs.Blocks.{blockBytes, checkOffset}
-use Rattle.sheet.specs.Form.{wordBytes, recordBytes, recordsInBlock, tailBytes, inputsEnd}
+use Rattle.sheet.specs.Form.{recordBytes, recordsInBlock, tailBytes}
 use Rattle.sheet.specs.Fields.{formOf, headerOf, inputDifference, recordPosition, recordOf, lineOf, trailOf}
 use Rattle.sheet.specs.Checks.{checkOf}
-use Rattle.sheet.specs.Questions.{zeroBytes, lengthQuestions, checkQuestions, inputRight, headerQuestions, recordQuestions, lineQuestions, recordRest, blockRest, restQuestion, laterQuestions, questions}
-use Rattle.sheet.proofs.FormSizes.{sizes, input-inside, record-ends, line-ends}
-use Rattle.sheet.proofs.FieldBytes.{SameAt, zeros-same, check-same, header-same, mark-same, input-same, record-same}
+use Rattle.sheet.specs.Questions.{lengthQuestions, checkQuestions, recordQuestions, lineQuestions, blockRest, restQuestion, laterQuestions, questions}
+use Rattle.sheet.proofs.FormSizes.{sizes, record-ends, line-ends}
+use Rattle.sheet.proofs.FieldBytes.{SameAt, check-same, header-same, record-same}
+use Rattle.sheet.proofs.QuestionBytes.{input-differences-same, header-questions-same, rest-same}
 use Rattle.sealed_sheets.specs.Demands.{SameButChecks}
 use Rattle.sheet.specs.declared.Form.{Form}
 use Rattle.sheet.specs.declared.Header.{Header}
@@ -39,9 +37,8 @@ module _ {s t : List ℕ} (h : SameButChecks s t) where
   pub same-header : headerOf s ≡ headerOf t
   same-header = header-same (h .same-length) (same-at 8 0 (omega arith))
 
-  same-input : (f : Form) (j : ℕ) → j < 8 → inputDifference f s j ≡ inputDifference f t j
-  same-input f j l =
-      input-same f j (same-at (wordBytes f) (8 + wordBytes f * j) (omega (arith, input-inside f j l, sizes f .inputs-inside)))
+  same-first : SameAt 0 checkOffset s t
+  same-first = same-at checkOffset 0 (omega arith)
 
   same-record : (f : Form) (k : ℕ) → recordOf f s k ≡ recordOf f t k
   unfolding recordOf recordPosition
@@ -51,39 +48,21 @@ module _ {s t : List ℕ} (h : SameButChecks s t) where
 
   -- ---- the questions
 
-  same-zeros : (k i : ℕ) → i % blockBytes + k ≤ checkOffset → zeroBytes k s i ≡ zeroBytes k t i
-  same-zeros k i l = zeros-same k i (same-at k i l)
-
   pub same-length-questions : lengthQuestions s ≡ lengthQuestions t
   unfolding lengthQuestions
   same-length-questions = rw (h .same-length)
 
-  same-inputs : (p : Header) → all 8 (inputRight s p) ≡ all 8 (inputRight t p)
-  unfolding inputRight
-  same-inputs p =
-      all-cong 8 (inputRight s p) (inputRight t p)
-      (λ j l. ap (λ (d : ℕ). cond (ltb j (p .inputs)) (isWord (p .width) d) (eqb d 0)) (same-input (p .form) j l))
-
-  same-header-questions : (p : Header) → headerQuestions s p ≡ headerQuestions t p
-  unfolding headerQuestions
-  same-header-questions p = rw (mark-same (same-at 4 0 (omega arith)), same-inputs p, same-zeros (checkOffset - inputsEnd (p .form)) (inputsEnd (p .form)) (omega (arith, sizes (p .form) .inputs-inside)))
-
   same-rest : (p : Header) (i : ℕ) → blockRest s p i ≡ blockRest t p i
-  unfolding blockRest recordRest
   same-rest p i =
-      ap₂ _&&_
-      (all-cong (recordsInBlock f) (recordRest s p i) (recordRest t p i)
-      (λ j l. ap (λ z. ltb (recordsInBlock f * i + j) (p .lines) || z)
-      (same-zeros (recordBytes f) (blockBytes * (1 + i) + recordBytes f * j) (omega (arith, record-ends f j l)))))
-      (same-zeros (tailBytes f) (blockBytes * (1 + i) + recordBytes f * recordsInBlock f) (omega (arith, sizes f .filled)))
-    where
-      f : Form
-      f = p .form
+      let f = p .form in
+      rest-same p i
+      (λ j l past. same-at (recordBytes f) (blockBytes * (1 + i) + recordBytes f * j) (omega (arith, record-ends f j l)))
+      (same-at (tailBytes f) (blockBytes * (1 + i) + recordBytes f * recordsInBlock f) (omega (arith, sizes f .filled)))
 
   pub same-later : (mode : Mode) (p : Header) → laterQuestions mode s p ≡ laterQuestions mode t p
   unfolding laterQuestions lineQuestions restQuestion
   same-later mode p =
-      ap₂ _++_ (same-header-questions p)
+      ap₂ _++_ (header-questions-same same-first p)
       (ap₂ _++_
       (concat-cong (p .lines) (lineQuestions mode s p) (lineQuestions mode t p) (λ k l. ap (recordQuestions mode p k) (same-record (p .form) k)))
       (concat-cong (p .blocks - 1) (restQuestion s p) (restQuestion t p) (λ i l. ap (λ a. ask a 16 (1 + i) ∷ []) (same-rest p i))))
@@ -100,6 +79,6 @@ module _ {s t : List ℕ} (h : SameButChecks s t) where
   same-trail few =
       let f = formOf s in
       let width = ap (λ (p : Header). p .width) same-header in
-      let inputs = tabulate-cong (headerOf s .inputs) (inputDifference f s) (inputDifference f t) (λ j l. same-input f j (omega arith)) ∙ ap (λ (p : Header). tabulate (p .inputs) (inputDifference (p .form) t)) same-header in
+      let inputs = tabulate-cong (headerOf s .inputs) (inputDifference f s) (inputDifference f t) (λ j l. input-differences-same same-first f j (omega arith)) ∙ ap (λ (p : Header). tabulate (p .inputs) (inputDifference (p .form) t)) same-header in
       let lines = tabulate-cong (headerOf s .lines) (λ k. lineOf (recordOf f s k)) (λ k. lineOf (recordOf f t k)) (λ k l. ap lineOf (same-record f k)) ∙ ap (λ (p : Header). tabulate (p .lines) (λ k. lineOf (recordOf (p .form) t k))) same-header in
       λ i. record { width = width i; inputs = inputs i; lines = lines i }

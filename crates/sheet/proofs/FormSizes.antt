@@ -1,12 +1,12 @@
 -- Laws of the forms' sizes: arithmetic with a form's own numbers, a case for each form. Laws and proofs elsewhere take any form and
 -- cite these.
-use Prim.Native.Nat.{ℕ, _+_, _*_, _-_, _/_, _%_, _<_, _≤_}
+use Prim.Native.Nat.{ℕ, _+_, _*_, _-_, _/_, _%_, _^_, _<_, _≤_}
 use native.Mathlib.Omega.{arith}
 use mathlib.Core.Path.{_≡_, refl}
 use mathlib.Core.List.{List}
 use Rattle.buffers.specs.LittleEndian.{byteAt}
-use Rattle.sheet.specs.Blocks.{blockBytes, checkOffset}
-use Rattle.sheet.specs.Fields.{formOf}
+use Rattle.sheet.specs.Blocks.{blockBytes, checkOffset, lengthMost}
+use Rattle.sheet.specs.Fields.{formOf, recordPosition}
 use Rattle.sheet.specs.Form.{wordBytes, widthMost, recordBytes, recordsInBlock, tailBytes, blocksMost, inputsEnd}
 use Rattle.sheet.specs.Questions.{lineBlocks}
 use Rattle.sheet.specs.declared.Form.{Form}
@@ -43,6 +43,10 @@ sizes Narrow = record {
 pub width-below : (f : Form) → widthMost f ≤ 32
 width-below Narrow = omega arith
 
+-- the bytes of a word hold a word of the largest width
+pub words-hold : (f : Form) → 2 ^ widthMost f ≤ 256 ^ wordBytes f
+words-hold Narrow = omega arith
+
 -- ---- the header
 
 -- input difference j lies among the eight
@@ -52,6 +56,9 @@ input-inside Narrow j l = omega arith
 -- no sheet has more blocks than the most
 pub blocks-enough : (f : Form) (lines : ℕ) → lines ≤ 248 → 1 + lineBlocks f lines ≤ blocksMost f
 blocks-enough Narrow lines l = omega arith
+
+pub blocks-fit : (f : Form) → blockBytes * blocksMost f ≤ lengthMost
+blocks-fit Narrow = omega arith
 
 -- ---- the line blocks
 
@@ -69,6 +76,20 @@ record-ends Narrow j l = omega arith
 
 pub line-ends : (f : Form) (k : ℕ) → recordBytes f * (k % recordsInBlock f) + recordBytes f ≤ checkOffset
 line-ends Narrow k = omega arith
+
+pub line-before-rest : (f : Form) (k : ℕ) → recordBytes f * (k % recordsInBlock f) + recordBytes f ≤ recordBytes f * recordsInBlock f
+line-before-rest Narrow k = omega arith
+
+-- record j of line block 1 + i is that of line 31 i + j
+pub record-at : (f : Form) (i j : ℕ) → j < recordsInBlock f
+    → recordPosition f (recordsInBlock f * i + j) ≡ blockBytes * (1 + i) + recordBytes f * j
+unfolding recordPosition
+record-at Narrow i j l = omega arith
+
+-- a line's record ends before the next line's begins
+pub records-apart : (f : Form) (i k : ℕ) → i < k → recordPosition f i + recordBytes f ≤ recordPosition f k
+unfolding recordPosition
+records-apart Narrow i k l = omega arith
 
 -- the lines before a block are fewer than the bytes before it
 pub lines-before : (f : Form) (i : ℕ) → recordsInBlock f * i ≤ blockBytes * i

@@ -1,5 +1,6 @@
 pub mod FormSizes
 pub mod FieldBytes
+pub mod QuestionBytes
 pub mod Asking
 pub mod LineAsking
 pub mod Testing

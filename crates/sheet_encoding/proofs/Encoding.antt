@@ -25,10 +25,10 @@ use Rattle.sheet.specs.Form.{markOf, wordBytes, widthMost, recordBytes, records
 use Rattle.sheet.specs.Blocks.{blockBytes}
 use Rattle.sheet.specs.Questions.{lineBlocks}
 use Rattle.sheet.specs.Fields.{formOf, inputDifference, recordFrom, recordPosition, recordOf, trailOf}
-use Rattle.sheet.proofs.FormSizes.{sizes}
+use Rattle.sheet.proofs.FormSizes.{sizes, words-hold}
 use Rattle.sheet.specs.declared.Form.{Form}
 use Rattle.sheet_encoding.specs.Encoding.{recordBytesOf, headerBlock, lineBlock, encode}
-use Rattle.sheet_encoding.proofs.FormLaws.{mark-long, mark-told, words-hold}
+use Rattle.sheet_encoding.proofs.FormLaws.{mark-long, mark-told}
 
 -- ---- pieces of one length
 

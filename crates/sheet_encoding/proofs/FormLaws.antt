@@ -1,5 +1,5 @@
 -- What a trail's bytes need of the forms: arithmetic with a form's own numbers and its mark, a case for each form.
-use Prim.Native.Nat.{ℕ, _*_, _^_, _≤_}
+use Prim.Native.Nat.{ℕ}
 use native.Mathlib.Omega.{arith}
 use mathlib.Core.Path.{_≡_, refl}
 use mathlib.Core.Bool.{true}
@@ -8,8 +8,7 @@ use lib.ListN.{length, replicate}
 use Rattle.buffers.specs.LittleEndian.{bytesOf}
 use Rattle.buffers.proofs.Standing.{Stands}
 use Rattle.trail.specs.Trail.{noLine}
-use Rattle.sheet.specs.Form.{markOf, wordBytes, widthMost, recordBytes, blocksMost}
-use Rattle.sheet.specs.Blocks.{blockBytes, lengthMost}
+use Rattle.sheet.specs.Form.{markOf, recordBytes}
 use Rattle.sheet.specs.Fields.{formOf}
 use Rattle.sheet.specs.Questions.{marked}
 use Rattle.sheet.specs.declared.Form.{Form}
@@ -31,13 +30,7 @@ pub mark-told : (f : Form) (s : List ℕ) → Stands 0 (markOf f) s → formOf s
 unfolding formOf
 mark-told Narrow s st = refl
 
--- ---- sizes
-
-pub words-hold : (f : Form) → 2 ^ widthMost f ≤ 256 ^ wordBytes f
-words-hold Narrow = omega arith
-
-pub blocks-fit : (f : Form) → blockBytes * blocksMost f ≤ lengthMost
-blocks-fit Narrow = omega arith
+-- ---- a record
 
 -- a record past the last line is zero
 pub no-line-zero : (f : Form) → recordBytesOf f noLine ≡ replicate (recordBytes f) 0

@@ -30,9 +30,9 @@ use Rattle.sheet.specs.declared.Record.{Record}
 use Rattle.sheet.specs.declared.Mode.the-variants.{Read}
 use Rattle.sheet.proofs.Asking.{yes-both, yes-one, yes-each, yes-verdict, Comes, comes}
 use Rattle.sheet.proofs.Asking.Comes.{done, yes as right}
-use Rattle.sheet.proofs.FormSizes.{sizes, blocks-enough}
+use Rattle.sheet.proofs.FormSizes.{sizes, blocks-enough, blocks-fit}
 use Rattle.sheet_encoding.specs.Encoding.{recordBytesOf, headerBlock, lineBlock, encode}
-use Rattle.sheet_encoding.proofs.FormLaws.{mark-there, blocks-fit, no-line-zero}
+use Rattle.sheet_encoding.proofs.FormLaws.{mark-there, no-line-zero}
 use Rattle.sheet_encoding.proofs.Encoding.{asRecord, encode-length, header-stands, line-block-stands, piece-stands, block-there, records, records-length, header-read, line-read, encode-form}
 
 -- ---- tests

@@ -9,7 +9,7 @@ ghost use lib.ListN.{length};
 ghost use Rattle.buffers.specs.LittleEndian.{numberAt};
 ghost use Rattle.sheet.specs.Form.{wordBytes, recordBytes, inputsEnd};
 ghost use Rattle.sheet.specs.Blocks.{lengthLeast};
-ghost use Rattle.sheet.specs.Fields.{headerOf, inputDifference, recordFrom, recordOf};
+ghost use Rattle.sheet.specs.Fields.{headerOf, inputDifference, recordFrom, recordPosition, recordOf};
 ghost use Rattle.sheet.specs.Facts.{Whole, Limited};
 use crate::sizes::record_bytes;
 use crate::sizes::records_in_block;
@@ -79,13 +79,21 @@ fn record_from(s: &[u8], at: usize, form: Form) -> Record
     }
 }
 
+// Where line k's record stands.
+pub fn record_position(header: Header, k: usize) -> usize
+    requires { ⌜ Limited header × (k < header .lines) ⌝ }
+    ensures { λ r. ⌜ r ≡ recordPosition (header .form) k ⌝ }
+{
+    let form = header.form;
+    let records = records_in_block(form);
+    512 * (1 + k / records) + record_bytes(form) * (k % records)
+}
+
 // Line k's record.
 pub fn record_of(s: &[u8], header: Header, k: usize) -> Record
     requires { ⌜ Whole (now s) header × Limited header × (k < header .lines) ⌝ }
     ensures { λ r. ⌜ r ≡ recordOf (header .form) (now (s .entry)) k ⌝ }
 {
     let form = header.form;
-    let records = records_in_block(form);
-    let at = 512 * (1 + k / records) + record_bytes(form) * (k % records);
-    record_from(s, at, form)
+    record_from(s, record_position(header, k), form)
 }

@@ -2,8 +2,7 @@
 use native.Mathlib.Omega.{arith}
 use Prim.Native.Nat.{_+_}
 use borrow.Author.Needs.{needs}
-use Rattle.sheet.proofs.FormSizes.{blocks-enough}
-use Rattle.sheet_encoding.proofs.FormLaws.{blocks-fit}
+use Rattle.sheet.proofs.FormSizes.{blocks-enough, blocks-fit}
 use Rattle.joined_writer.proofs.joined_bytes.Statement.{statement}
 use Rattle.joined_writer.proofs.joined_bytes.Tie as tie
 

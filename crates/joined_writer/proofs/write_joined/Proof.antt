@@ -5,10 +5,9 @@ use mathlib.Core.Path.{refl, sym, ap, _∙_}
 use borrow.Author.Needs.{needs}
 use Rattle.sheet.specs.Questions.{lineBlocks}
 use Rattle.sheet.specs.declared.Header.{Header}
-use Rattle.sheet.proofs.FormSizes.{blocks-enough}
+use Rattle.sheet.proofs.FormSizes.{blocks-enough, blocks-fit}
 use Rattle.sheet_encoding.specs.Encoding.{sheetOf}
 use Rattle.sheet_encoding.proofs.Encoding.{header-length}
-use Rattle.sheet_encoding.proofs.FormLaws.{blocks-fit}
 use Rattle.sheet_writer.proofs.SheetBytes.{sheet-written}
 use Rattle.joined_sheets.specs.JoinedSheet.{joinedTrail, joinedSheet}
 use Rattle.joined_writer.proofs.JoinedCounts.{joined-lines}

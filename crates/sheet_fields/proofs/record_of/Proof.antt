@@ -1,53 +1,27 @@
 -- A line's record lies within the sheet's blocks.
 use native.Mathlib.Omega.{arith}
+use mathlib.Core.Path.{ap, _∙_}
 use borrow.Author.Needs.{needs}
-use Rattle.sheet.specs.Fields.{recordOf, recordPosition}
-use Rattle.sheet.proofs.FormSizes.{sizes, record-inside}
+use Prim.Native.Nat.{ℕ}
+use Rattle.sheet.specs.Fields.{recordFrom, recordOf, recordPosition}
+use Rattle.sheet.proofs.FormSizes.{record-inside}
 use Rattle.sheet_fields.proofs.record_of.Tie as tie
 use Rattle.sheet_fields.proofs.record_of.Statement.{statement}
 
-records-in-block-requires : tie.Need-records-in-block-requires
-records-in-block-requires c κs = search needs
-
-div-at : tie.Need-div-at
-div-at c = omega (arith, sizes (c .before .before .args .header .form) .records-least)
-
-add-at : tie.Need-add-at
-add-at c = rw (c .records-in-block .ensures) (omega (arith, record-inside (c .before .before .args .header .form) (c .before .before .args .header .lines) (c .before .before .args .k) (omega arith)))
-
-mul-at : tie.Need-mul-at
-mul-at c = rw (c .records-in-block .ensures) (omega (arith, record-inside (c .before .before .args .header .form) (c .before .before .args .header .lines) (c .before .before .args .k) (omega arith)))
-
-record-bytes-requires : tie.Need-record-bytes-requires
-record-bytes-requires c κs = search needs
-
-rem-at : tie.Need-rem-at
-rem-at c = omega (arith, sizes (c .before .before .before .args .header .form) .records-least)
-
-mul-at-2 : tie.Need-mul-at-2
-mul-at-2 c = rw (c .record-bytes .ensures, c .before .records-in-block .ensures) (omega (arith, record-inside (c .before .before .before .args .header .form) (c .before .before .before .args .header .lines) (c .before .before .before .args .k) (omega arith)))
-
-add-at-2 : tie.Need-add-at-2
-add-at-2 c = rw (c .record-bytes .ensures, c .before .records-in-block .ensures) (omega (arith, record-inside (c .before .before .before .args .header .form) (c .before .before .before .args .header .lines) (c .before .before .before .args .k) (omega arith)))
+record-position-requires : tie.Need-record-position-requires
+record-position-requires c κs = search needs
 
 record-from-requires : tie.Need-record-from-requires
-record-from-requires c κs = rw (c .record-bytes .ensures, c .before .records-in-block .ensures) (omega (arith, record-inside (c .before .before .before .args .header .form) (c .before .before .before .args .header .lines) (c .before .before .before .args .k) (omega arith)))
+unfolding recordPosition
+record-from-requires c κs =
+    let start = c .before .before in
+    rw (c .record-position .ensures) (omega (arith, record-inside (start .args .header .form) (start .args .header .lines) (start .args .k) (omega arith)))
 
 returns : tie.Need-returns
-unfolding recordOf recordPosition
-returns c = rw (← c .before .record-bytes .ensures, ← c .before .before .records-in-block .ensures) (c .record-from .ensures)
+unfolding recordOf
+returns c =
+    let start = c .before .before .before in
+    c .record-from .ensures ∙ ap (recordFrom (start .args .header .form) (start .args .s .now)) (c .before .record-position .ensures)
 
 pub record-of-spec : {M : Type 1} → statement M
-record-of-spec =
-    tie.close
-    (tie.spec
-    records-in-block-requires
-    div-at
-    add-at
-    mul-at
-    record-bytes-requires
-    rem-at
-    mul-at-2
-    add-at-2
-    record-from-requires
-    returns)
+record-of-spec = tie.close (tie.spec record-position-requires record-from-requires returns)
