@@ -6,8 +6,9 @@
  * with the XOR difference expected of every word.  The calls below read a
  * sheet, seal one, say of each line whether its differential can happen and
  * what it costs, run the program on two starting values, write the trail as
- * clauses for a SAT solver, write clauses and reports as text, and join the
- * trails of two sheets.
+ * clauses for a SAT solver, write clauses and reports as text, join the trails
+ * of two sheets, and change one of the expected differences or try the change
+ * first.
  *
  * No call keeps anything between calls, or holds on to a pointer after it
  * returns.
@@ -19,7 +20,9 @@
  *
  *   Success: number and place are 0, and count is what the call says below.
  *            What is written is written from the start of the lent buffer;
- *            whatever lies past it in the buffer stays as it was.
+ *            whatever lies past it in the buffer stays as it was.  Into the
+ *            sheet itself write only tablegull_seal and tablegull_change, and
+ *            only the bytes that they name below.
  *   Refusal: number and place say which question had the answer no, count is
  *            0, and no byte of any lent buffer has changed.
  *
@@ -31,9 +34,10 @@
  * asks 23 of each line directly after 11; no other call asks 23.  Questions 17
  * to 22 are asked after them, by the calls that take what they are about, in the
  * order that the call says below: 17 by the calls that take a line, and by the
- * two for texts, which take a part.  The first question whose answer is no is
- * the refusal.  Blocks, lines and parts are numbered from 0, block 0 being the
- * header.
+ * two for texts, which take a part.  tablegull_change and tablegull_trial take a
+ * difference for a line, and ask 14 of it directly after 17.  The first question
+ * whose answer is no is the refusal.  Blocks, lines and parts are numbered from
+ * 0, block 0 being the header.
  *
  *   number  place  the question whose answer is no
  *   ------  -----  ------------------------------------------------------------
@@ -100,13 +104,13 @@ extern "C" {
  * The archive does not tell its version: take header and archive from the same
  * sources.
  */
-#define TABLEGULL_VERSION "0.7.1"
+#define TABLEGULL_VERSION "0.8.0"
 
 /* Lengths that are always enough. */
 #define TABLEGULL_MAX_SHEET 4608        /* bytes of a sheet                    */
 #define TABLEGULL_MAX_LINES 248         /* lines of a sheet                    */
 #define TABLEGULL_LINE_REPORT 16        /* bytes of tablegull_line_report      */
-#define TABLEGULL_MAX_REPORT 3968       /* bytes of tablegull_report           */
+#define TABLEGULL_MAX_REPORT 3968       /* bytes of tablegull_report, _trial   */
 #define TABLEGULL_MAX_LINE_CLAUSES 4944 /* numbers of tablegull_line_clauses   */
 #define TABLEGULL_MAX_CLAUSE_TEXT 34608 /* bytes of tablegull_clause_text      */
 #define TABLEGULL_MAX_REPORT_TEXT 64    /* bytes of tablegull_report_text      */
@@ -272,6 +276,41 @@ struct tablegull_answer tablegull_join(const uint8_t *first, size_t first_len,
                                        const uint8_t *second, size_t second_len,
                                        const uint64_t *names, size_t names_len,
                                        uint8_t *out, size_t out_len);
+
+/*
+ * Replaces the difference that a line states, and renews the check of the block
+ * that the line is in.  Line k is record k % 31 of block 1 + k / 31: bytes 12 to
+ * 15 of the record are written, and bytes 508 to 511 of the block.  No other
+ * byte changes, and tablegull_read accepts the sheet afterwards.
+ *
+ * The difference counts in all its 64 bits, and so does the line: 2^32 + 1 is
+ * not taken for 1.
+ *
+ * A line that XORs a word with itself is changed like any other, and stays such a
+ * line; tablegull_seal refuses the changed sheet then, by 23.
+ *
+ * Asks 1 to 16, then 17 (line), then 14 (difference; place: the line).
+ * Number and place do not tell whether 14 was about the sheet or the difference:
+ * it was the sheet if tablegull_read refuses the sheet, else the difference.
+ * count: 0.
+ */
+struct tablegull_answer tablegull_change(uint8_t *sheet, size_t len,
+                                         uint64_t line, uint64_t difference);
+
+/*
+ * Tries a change, and leaves the sheet whole.  Writes the reports of all lines,
+ * 16 bytes each, that the sheet would have with this difference in this line:
+ * what tablegull_report writes of a copy that tablegull_change has changed.
+ *
+ * Asks 1 to 16, then 17 (line) and 14 (difference; place: the line) as
+ * tablegull_change does, and 18 last (out_len of 16 L or more;
+ * TABLEGULL_MAX_REPORT is enough for any).
+ * out may not overlap the sheet.
+ * count: the bytes written, 16 L.
+ */
+struct tablegull_answer tablegull_trial(const uint8_t *sheet, size_t len,
+                                        uint64_t line, uint64_t difference,
+                                        uint8_t *out, size_t out_len);
 
 #ifdef __cplusplus
 }

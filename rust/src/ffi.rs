@@ -104,4 +104,18 @@ extern "C" {
         out: *mut u8,
         out_len: usize,
     ) -> Answer;
+
+    /// Replaces the difference that a line states; count: 0.
+    pub fn tablegull_change(sheet: *mut u8, len: usize, line: u64, difference: u64) -> Answer;
+
+    /// Writes all lines' reports as they would be after a change; count: the bytes
+    /// written.
+    pub fn tablegull_trial(
+        sheet: *const u8,
+        len: usize,
+        line: u64,
+        difference: u64,
+        out: *mut u8,
+        out_len: usize,
+    ) -> Answer;
 }

@@ -19,11 +19,14 @@
 //! | `report_text` | all reports and the totals as text | the text |
 //! | `clause_text_part`, `report_text_part` | a part of these texts: they have one more than the sheet has lines | its text |
 //! | `join` | joins the trails of two sheets | the joined sheet's bytes |
+//! | `change` | replaces the difference that a line states | nothing |
+//! | `trial` | all lines' reports as a change would make them | a [`LineReport`] for each line |
 //!
 //! A call that is refused returns a [`Refusal`], and leaves every byte of a
 //! sheet as it was. The module `slices` has the same calls, for texts those for a
 //! part, over buffers that the caller holds: they write from the start of the lent
-//! buffer and leave the rest, and on a refusal all of it.
+//! buffer and leave the rest, and on a refusal all of it. Into a sheet itself write
+//! only `seal`, its checks, and `change`, a line's difference and its block's check.
 //!
 //! A word XORed with itself is refused by `seal` alone. Sheets that have been
 //! sealed with such a line can still be read and used.
@@ -32,9 +35,9 @@
 //! `TABLEGULL_LIB` names, or else in `../target/staticlib`.
 //!
 //! [`mod@reference`] has the calls of `slices` in plain Rust, written from documents
-//! 01 and 02 (all but joining, question 23 and the texts from these alone), and
-//! sharing no code with the archive; the tests hold the two against each other.
-//! [`builder`] makes sheets.
+//! 01 and 02 (all but joining, question 23, the texts and changes from these
+//! alone), and sharing no code with the archive; the tests hold the two against
+//! each other. [`builder`] makes sheets.
 //!
 //! Programs, all with `cargo run --release --bin NAME`:
 //!
@@ -165,13 +168,19 @@ pub fn line_report(sheet: &[u8], line: usize) -> Result<LineReport, Refusal> {
 pub fn reports(sheet: &[u8]) -> Result<Vec<LineReport>, Refusal> {
     let mut bytes = [0; MAX_LINES * LINE_REPORT];
     let count = slices::report(sheet, &mut bytes)?;
-    Ok(bytes[..count]
+    Ok(reports_of_bytes(&bytes[..count]))
+}
+
+/// The reports that a report buffer spells.
+#[cfg(has_archive)]
+fn reports_of_bytes(bytes: &[u8]) -> Vec<LineReport> {
+    bytes
         .chunks_exact(LINE_REPORT)
         .map(|line| {
             let line = line.try_into().expect("a chunk of that length");
             LineReport::from_bytes(line).expect("the archive writes one of four reports")
         })
-        .collect())
+        .collect()
 }
 
 /// The sheet's totals. A line that repeats an earlier one adds no weight and no
@@ -347,4 +356,62 @@ pub fn join(first: &[u8], second: &[u8], names: &[u64]) -> Result<Vec<u8>, Refus
     let length = slices::join(first, second, names, &mut sheet)?;
     sheet.truncate(length);
     Ok(sheet)
+}
+
+/// Replaces the difference that a line states, and renews the check of the line's
+/// block. No other byte changes, and the sheet can be read afterwards: it is used
+/// like any other.
+///
+/// Where there is no such line the call is refused by 17. A difference that is not
+/// below 2^n is refused by 14, at the line. A sheet that has such a difference
+/// itself is refused by 14 too: then `read` refuses the sheet.
+///
+/// ```
+/// use tablegull::builder::{Line, SheetBuilder};
+/// use tablegull::LineReport;
+///
+/// let mut sheet = SheetBuilder::new(4, &[1]);
+/// let turned = sheet.line(Line::rotate_left(0, 1, 2));
+/// sheet.line(Line::rotate_left(turned, 1, 8));
+/// let mut bytes = sheet.seal()?;
+/// assert_eq!(tablegull::line_report(&bytes, 1)?, LineReport::Impossible);
+///
+/// tablegull::change(&mut bytes, 1, 4)?;
+/// assert_eq!(tablegull::line_report(&bytes, 1)?, LineReport::Certain);
+///
+/// assert_eq!(tablegull::change(&mut bytes, 2, 4).unwrap_err().number, 17);
+/// let too_large = tablegull::change(&mut bytes, 1, 16).unwrap_err();
+/// assert_eq!((too_large.number, too_large.place), (14, 1));
+/// # Ok::<(), tablegull::Refusal>(())
+/// ```
+#[cfg(has_archive)]
+pub fn change(sheet: &mut [u8], line: usize, difference: u64) -> Result<(), Refusal> {
+    slices::change(sheet, line, difference)?;
+    Ok(())
+}
+
+/// The reports of all lines, in order, that the sheet would have if [`change`] put
+/// this difference into this line. It is refused where the change would be.
+///
+/// ```
+/// use tablegull::builder::{Line, SheetBuilder};
+/// use tablegull::LineReport::{Certain, Impossible};
+///
+/// let mut sheet = SheetBuilder::new(4, &[1]);
+/// let turned = sheet.line(Line::rotate_left(0, 1, 2));
+/// sheet.line(Line::rotate_left(turned, 1, 8));
+/// let bytes = sheet.seal()?;
+/// assert_eq!(tablegull::reports(&bytes)?, [Certain, Impossible]);
+///
+/// // In the second line 4 mends the trail. In the first one it does not: the second
+/// // could happen then, and the first could not.
+/// assert_eq!(tablegull::trial(&bytes, 1, 4)?, [Certain, Certain]);
+/// assert_eq!(tablegull::trial(&bytes, 0, 4)?, [Impossible, Certain]);
+/// # Ok::<(), tablegull::Refusal>(())
+/// ```
+#[cfg(has_archive)]
+pub fn trial(sheet: &[u8], line: usize, difference: u64) -> Result<Vec<LineReport>, Refusal> {
+    let mut bytes = [0; MAX_LINES * LINE_REPORT];
+    let count = slices::trial(sheet, line, difference, &mut bytes)?;
+    Ok(reports_of_bytes(&bytes[..count]))
 }

@@ -178,3 +178,32 @@ pub fn join(first: &[u8], second: &[u8], names: &[u64], out: &mut [u8]) -> Resul
         )
     })
 }
+
+/// Replaces the difference that a line states, and renews the check of the line's
+/// block. No other byte changes, and the sheet can be read afterwards. Answers 0.
+///
+/// A difference that does not fit the sheet's width is refused by 14, at the line.
+pub fn change(sheet: &mut [u8], line: usize, difference: u64) -> Result<usize, Refusal> {
+    // SAFETY: pointer and length are one slice's, borrowed for writing.
+    outcome(unsafe {
+        ffi::tablegull_change(sheet.as_mut_ptr(), sheet.len(), line as u64, difference)
+    })
+}
+
+/// Writes the reports of all lines in order, 16 bytes each, that the sheet would
+/// have if [`change`] put this difference into this line. Answers the number of
+/// bytes written.
+pub fn trial(sheet: &[u8], line: usize, difference: u64, out: &mut [u8]) -> Result<usize, Refusal> {
+    // SAFETY: each pointer and length are one slice's, and `out` is borrowed
+    // for writing.
+    outcome(unsafe {
+        ffi::tablegull_trial(
+            sheet.as_ptr(),
+            sheet.len(),
+            line as u64,
+            difference,
+            out.as_mut_ptr(),
+            out.len(),
+        )
+    })
+}

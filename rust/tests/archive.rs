@@ -21,7 +21,9 @@ fn there_is_no_archive() {
 mod compared {
     use std::fmt::Debug;
 
+    use super::common::changing::random_change;
     use super::common::damage::damage_a_field;
+    use super::common::lending::rewritten;
     use super::common::sealing::{random_sheet_to_seal, Met};
     use super::common::{
         disturb, random_lines, random_program, random_shape, write_checks, KeptOnFailure, Outcome,
@@ -96,31 +98,50 @@ mod compared {
         ]
     }
 
-    fn compare_reading(random: &mut Random, sheet: &[u8]) -> Outcome {
-        let answer = (ARCHIVE.read)(sheet);
-        assert_eq!(answer, (REFERENCE.read)(sheet), "read");
-        compare_sealing(random, sheet);
+    /// Lends both calls a copy of the sheet to write into, and compares what they
+    /// answer and the copies. What was written can be read; a refusal writes nothing.
+    fn compare_rewritten(
+        sheet: &[u8],
+        call: &str,
+        archive: impl FnOnce(&mut [u8]) -> Outcome,
+        reference: impl FnOnce(&mut [u8]) -> Outcome,
+    ) -> Outcome {
+        let (answer, theirs) = rewritten(|| call.into(), sheet, archive);
+        let (expected, ours) = rewritten(|| call.into(), sheet, reference);
+        assert_eq!(answer, expected, "{call}");
+        assert!(ours == theirs, "{call}: other contents");
+        match answer {
+            Ok(_) => assert!((ARCHIVE.read)(&theirs).is_ok(), "{call}: not readable"),
+            Err(_) => assert!(theirs == sheet, "{call}: a refusal that wrote"),
+        }
         answer
     }
 
-    fn compare_sealing(random: &mut Random, sheet: &[u8]) {
-        // Lent as a part of a longer buffer, as in `compare`.
-        let guard = 1 + random.below(8);
-        let mut ours = vec![0xa5; sheet.len() + 2 * guard];
-        ours[guard..guard + sheet.len()].copy_from_slice(sheet);
-        let (before, mut theirs) = (ours.clone(), ours.clone());
-        let answer = (ARCHIVE.seal)(&mut theirs[guard..guard + sheet.len()]);
-        let expected = (REFERENCE.seal)(&mut ours[guard..guard + sheet.len()]);
-        assert_eq!(answer, expected, "seal");
-        assert!(ours == theirs, "seal: other contents");
-        match answer {
-            Ok(blocks) => {
-                assert_eq!(512 * blocks, sheet.len());
-                let sealed = &theirs[guard..guard + sheet.len()];
-                assert!((ARCHIVE.read)(sealed).is_ok(), "a sealed sheet is readable");
-            }
-            Err(_) => assert!(theirs == before, "seal: a refusal that wrote"),
-        }
+    fn compare_reading(sheet: &[u8]) -> Outcome {
+        let answer = (ARCHIVE.read)(sheet);
+        assert_eq!(answer, (REFERENCE.read)(sheet), "read");
+        let sealed = compare_rewritten(sheet, "seal", ARCHIVE.seal, REFERENCE.seal);
+        assert!(sealed.is_err() || sealed == Ok(sheet.len() / 512));
+        answer
+    }
+
+    fn compare_change(random: &mut Random, sheet: &[u8], width: u32, lines: usize, length: usize) {
+        let change = random_change(random, width, lines);
+        let (line, difference) = (change.line, change.difference);
+        let changed = compare_rewritten(
+            sheet,
+            "change",
+            |copy| (ARCHIVE.change)(copy, line, difference),
+            |copy| (REFERENCE.change)(copy, line, difference),
+        );
+        assert!(changed.is_err() || changed == Ok(0));
+        compare(
+            random,
+            length,
+            "trial",
+            |out| (ARCHIVE.trial)(sheet, line, difference, out),
+            |out| (REFERENCE.trial)(sheet, line, difference, out),
+        );
     }
 
     fn compare_line_calls(random: &mut Random, sheet: &[u8], line: usize, length: usize) {
@@ -219,9 +240,10 @@ mod compared {
         let sheet = program.sheet();
         let _kept = KeptOnFailure(&sheet);
         let lines = program.steps.len();
-        assert_eq!(compare_reading(random, &sheet), Ok(lines));
+        assert_eq!(compare_reading(&sheet), Ok(lines));
         for length in lengths(random, 16 * lines) {
             compare_report(random, &sheet, length);
+            compare_change(random, &sheet, program.width, lines, length);
         }
         for length in 0..5 {
             compare_small_calls(random, &sheet, start, length);
@@ -251,13 +273,15 @@ mod compared {
     fn compare_any(random: &mut Random, sheet: &[u8]) -> Outcome {
         let _kept = KeptOnFailure(sheet);
         let before = sheet.to_vec();
-        let answer = compare_reading(random, sheet);
+        let answer = compare_reading(sheet);
         let line = random.pick(&[0, 0, 1, 30, 31, 247, 248, usize::MAX]);
         let length = random.pick(&[0, 1, 2, 3, 4, 15, 16, 17, 496, 3968, 5000]);
         let start: Vec<u64> = (0..random.below(10)).map(|_| random.next() >> 60).collect();
         compare_line_calls(random, sheet, line, length);
         compare_texts(random, sheet, line, length);
         compare_report(random, sheet, length);
+        let width = sheet.get(4).map_or(32, |&n| u32::from(n).clamp(2, 32));
+        compare_change(random, sheet, width, answer.unwrap_or(20), length);
         compare_small_calls(random, sheet, &start, length.min(8));
         assert!(sheet == before, "a read-only sheet was written");
         answer

@@ -115,11 +115,17 @@ int main(void) {
     said_bytes(tablegull_clause_text(first, len, 2, bytes, TABLEGULL_MAX_CLAUSE_TEXT));
     said_bytes(tablegull_report_text(first, len, 3, bytes, TABLEGULL_MAX_REPORT_TEXT));
     said_bytes(tablegull_join(first, len, second, other, names, 2, bytes, TABLEGULL_MAX_SHEET));
+    said_bytes(tablegull_trial(first, len, 1, 4, bytes, TABLEGULL_MAX_REPORT));
     said(tablegull_line_report(first, len, 3, bytes, TABLEGULL_LINE_REPORT));
     said(tablegull_line_clauses(first, len, 0, numbers, 1));
     said(tablegull_two_runs(first, len, start, 1, words, 3));
     said(tablegull_join(first, len, second, other, names, 1, bytes, TABLEGULL_MAX_SHEET));
+    said(tablegull_trial(first, len, 1, UINT64_C(0x100000004), bytes, TABLEGULL_MAX_REPORT));
+    said(tablegull_change(first, len, UINT64_C(0x100000001), 4));
+    said(tablegull_change(first, len, 1, UINT64_C(0x100000004)));
+    said(tablegull_change(first, len, 1, 4));
     printf("\n");
+    said_bytes(tablegull_report(first, len, bytes, TABLEGULL_MAX_REPORT));
     return 0;
 }
 "#;
@@ -170,12 +176,27 @@ int main(void) {
             slices::join(first, second, &[1, 3], &mut bytes),
             &bytes,
         ));
-        let refused = [(17, 0), (18, 0), (19, 0), (21, 0)];
+        let tried = said(slices::trial(first, 1, 4, &mut bytes), &bytes);
+        line(tried.clone());
+        let refused = [
+            (17, 0),
+            (18, 0),
+            (19, 0),
+            (21, 0),
+            (14, 1),
+            (17, 0),
+            (14, 1),
+        ];
+        let changed = (0, 0);
         line(
             refused
+                .into_iter()
+                .chain([changed])
                 .map(|(number, place)| format!("{number} {place} 0:"))
-                .concat(),
+                .collect(),
         );
+        // The report of the changed sheet is what was tried.
+        line(tried);
         let files = [("first", first), ("second", second)];
         assert_eq!(run("calls", CALLS, &files), (expected, Some(0)));
     }
@@ -210,7 +231,7 @@ int main(void) {
             one.split(':').next().unwrap()
         });
         assert_eq!(header, package);
-        assert_eq!(header.len(), 11);
+        assert_eq!(header.len(), 13);
     }
 
     /// The README's indented lines from one that begins so, up to a blank one.

@@ -252,8 +252,6 @@ mod in_rust {
     }
 
     fn joining() -> Result<(), Any> {
-        // The other tests here name no file by a path that starts where they are.
-        std::env::set_current_dir(super::repository())?;
         // From here
         let keys = std::fs::read("examples/xtea6_keys.sheet")?;
         let rounds = std::fs::read("examples/xtea6_rounds.sheet")?;
@@ -263,10 +261,26 @@ mod in_rust {
         Ok(())
     }
 
+    fn changing() -> Result<(), Any> {
+        // From here
+        let mut sheet = std::fs::read("examples/lea7_printed.sheet")?;
+        let tried = tablegull::trial(&sheet, 138, 0x0004_0440)?;
+        assert_ne!(tried[138], tablegull::LineReport::Impossible);
+        assert_eq!(tried[139], tablegull::LineReport::Impossible);
+        tablegull::change(&mut sheet, 138, 0x0004_0440)?;
+        tablegull::change(&mut sheet, 139, 0x0000_8088)?;
+        assert_eq!(sheet, std::fs::read("examples/lea7.sheet")?);
+        // to here
+        Ok(())
+    }
+
     #[test]
     fn the_examples_run() {
+        // The other tests here name no file by a path that starts where they are.
+        std::env::set_current_dir(super::repository()).unwrap();
         building().unwrap();
         joining().unwrap();
+        changing().unwrap();
     }
 
     #[test]
@@ -274,7 +288,7 @@ mod in_rust {
         let readme = include_str!("../../README.md");
         let source = include_str!("readme.rs");
         let examples: Vec<&str> = source.split("        // From here\n").skip(1).collect();
-        assert_eq!(examples.len(), 2);
+        assert_eq!(examples.len(), 3);
         for example in examples {
             let (example, _) = example.split_once("        // to here\n").unwrap();
             let lines = example

@@ -157,6 +157,17 @@ fn each_question_has_its_number_and_place() {
             );
             assert_eq!((calls.seal)(&mut bytes), refused, "{name}, byte {at}");
             assert_eq!(bytes, before, "{name}, byte {at}");
+
+            // There is no such line.
+            let reading_then_17 = reading(&[damage]).and(Err(Refusal {
+                number: 17,
+                place: 0,
+            }));
+            let changed = (calls.change)(&mut bytes, 33, u64::MAX);
+            assert_eq!(changed, reading_then_17, "{name}, byte {at}");
+            let tried = (calls.trial)(&bytes, 33, u64::MAX, &mut []);
+            assert_eq!(tried, reading_then_17, "{name}, byte {at}");
+            assert_eq!(bytes, before, "{name}, byte {at}");
         }
     }
 }
@@ -268,6 +279,17 @@ fn questions_about_a_call_come_after_the_sheet() {
         assert_eq!(clauses(&good, 33, &mut []), refused(17, 0));
         assert_eq!(clauses(&good, 1 << 32, &mut [0; 4944]), refused(17, 0));
         assert_eq!(clauses(&good, 32, &mut []), refused(18, 0));
+
+        let (change, trial) = (calls.change, calls.trial);
+        assert_eq!(change(&mut bad.clone(), 33, 1 << 20), refused(9, 32));
+        assert_eq!(change(&mut good.clone(), 33, 1 << 20), refused(17, 0));
+        assert_eq!(change(&mut good.clone(), 32, 1 << 20), refused(14, 32));
+        assert_eq!(change(&mut good.clone(), 32, (1 << 20) - 1), Ok(0));
+        assert_eq!(trial(&bad, 33, 1 << 20, &mut []), refused(9, 32));
+        assert_eq!(trial(&good, 33, 1 << 20, &mut []), refused(17, 0));
+        assert_eq!(trial(&good, 32, 1 << 20, &mut []), refused(14, 32));
+        assert_eq!(trial(&good, 32, 3, &mut [0; 33 * 16 - 1]), refused(18, 0));
+        assert_eq!(trial(&good, 32, 3, &mut [0; 33 * 16]), Ok(33 * 16));
 
         for text in [calls.clause_text_part, calls.report_text_part] {
             assert_eq!(text(&bad, 34, &mut []), refused(9, 32));

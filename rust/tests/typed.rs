@@ -6,7 +6,7 @@
 mod common;
 
 use common::texts::TEXTS;
-use common::{write_checks, Report, ARCHIVE};
+use common::{write_checks, Program, Report, ARCHIVE};
 use tablegull::builder::{Line, SheetBuilder};
 use tablegull::{slices, LineReport, Refusal, Runs, Sixteenths, Totals, WholeBits};
 
@@ -188,6 +188,48 @@ fn a_joined_sheet_has_its_own_length() {
     assert_eq!(tablegull::join(&sheet, &sheet, &[0]), Err(refusal));
 }
 
+#[test]
+fn a_change_is_tried_and_made() {
+    let sheet = sheet();
+    let before = sheet.clone();
+    // Line 1 can happen with 2, and line 2 cannot with 1.
+    for (line, difference) in [(1, 2), (2, 1), (3, 4), (0, 2), (0, 15)] {
+        let reports = tablegull::trial(&sheet, line, difference).expect("a change that fits");
+        let mut lent = [7; 4 * 16 + 1];
+        let length = slices::trial(&sheet, line, difference, &mut lent);
+        assert_eq!((length, lent[64]), (Ok(64), 7));
+        let written = lent[..64].chunks(16).map(Report::parse);
+        assert!(reports.iter().copied().map(numbers).eq(written));
+        assert!(sheet == before);
+
+        let (mut changed, mut by_slices) = (sheet.clone(), sheet.clone());
+        assert_eq!(tablegull::change(&mut changed, line, difference), Ok(()));
+        assert_eq!(slices::change(&mut by_slices, line, difference), Ok(0));
+        assert!(changed == by_slices);
+        assert_eq!(tablegull::read(&changed), Ok(4));
+        assert_eq!(tablegull::reports(&changed), Ok(reports));
+    }
+}
+
+#[test]
+fn changes_are_refused() {
+    let mut sheet = sheet();
+    for (line, difference, number, place) in [
+        (4, 1, 17, 0),
+        (usize::MAX, 16, 17, 0),
+        (3, 16, 14, 3),
+        (0, 1 << 32, 14, 0),
+        (2, (1 << 32) + 1, 14, 2),
+    ] {
+        let refusal = Refusal { number, place };
+        let before = sheet.clone();
+        let changed = tablegull::change(&mut sheet, line, difference);
+        assert_eq!(changed, Err(refusal));
+        assert!(sheet == before);
+        assert_eq!(tablegull::trial(&sheet, line, difference), Err(refusal));
+    }
+}
+
 /// A sheet of 248 lines whose reports have the largest numbers, and the one with
 /// the longest lists and texts.
 const LARGEST: [&[u8]; 2] = [
@@ -223,6 +265,8 @@ fn the_largest_reports_are_whole() {
         assert_eq!(expected.len(), tablegull::MAX_LINES);
         let reports = tablegull::reports(sheet).expect("an accepted sheet");
         assert!(reports.iter().copied().map(numbers).eq(expected.clone()));
+        let stated = Program::parse(sheet).steps[0].difference.into();
+        assert!(tablegull::trial(sheet, 0, stated) == Ok(reports.clone()));
         for (line, report) in reports.into_iter().enumerate() {
             assert_eq!(tablegull::line_report(sheet, line), Ok(report));
         }

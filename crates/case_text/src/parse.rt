@@ -40,10 +40,11 @@ pub fn number(text: &[u8], from: usize) -> Numeral
     Numeral { value, next: at }
 }
 
-// A number with one more digit. One that has ten already, more than any number of a case, stays as it is.
+// A number with one more digit. One that would pass the largest of 64 bits stays as it is.
 fn with_digit(value: usize, digit: u8) -> usize {
-    if value < 1000000000 {
-        10 * value + digit as usize
+    let last = digit as usize;
+    if value <= (usize::MAX - last) / 10 {
+        10 * value + last
     } else {
         value
     }

@@ -5,6 +5,7 @@
 // - `#reports`: line reports, totals and the report buffer, as `report_cases` says;
 // - `#clauses`: two runs and clause lists, as `clause_cases` says;
 // - `#joins`: joining, as `join_cases` says;
+// - `#differences`: changing a stated difference and trying a change, as `change_cases` says;
 // - `#texts`: what the programs print, as `program_texts` says.
 mod program_texts;
 
@@ -13,7 +14,7 @@ use case_text::parse::find;
 use libc::STDIN_FILENO;
 
 // Room for all cases.
-const CASES_BYTES: usize = 360448;
+const CASES_BYTES: usize = 393216;
 
 fn main() {
     let mut input = [0u8; CASES_BYTES];
@@ -51,6 +52,7 @@ fn run_case(line: &[u8], subject: u8) {
         b'r' => report_cases::run_case(line),
         b'c' => clause_cases::run_case(line),
         b'j' => join_cases::run_case(line),
+        b'd' => change_cases::run_case(line),
         _ => run_text(line),
     }
 }

@@ -3,7 +3,7 @@
 // A case is a line `TEXT FILE`, and FILE is the name of a sheet. After the case its text is printed: the `report` of the sheet, its
 // `clauses`, or the `header` of these. Of a text of megabytes the `digest` is printed instead: a checksum of all parts of the clause
 // file, in order, and of the refusals of those past the last.
-use buffers::byte_at;
+use case_text::checksum::with_bytes;
 use case_text::checksum::with_number;
 use case_text::parse::find;
 use case_text::print::print;
@@ -96,16 +96,7 @@ fn with_part(checksum: u64, answer: PartAnswer, out: &[u8]) -> u64 {
 // The checksum with a buffer's first bytes.
 fn with_first(checksum: u64, out: &[u8], count: usize) -> u64 {
     if count <= out.len() {
-        return with_bytes(checksum, &out[0..count]);
+        return with_bytes(checksum, &out[0..count], 0);
     }
     0
-}
-
-// The checksum with more bytes.
-fn with_bytes(checksum: u64, bytes: &[u8]) -> u64 {
-    let mut sum = checksum;
-    for i in 0..bytes.len() {
-        sum = with_number(sum, byte_at(bytes, i) as u64);
-    }
-    sum
 }

@@ -15,6 +15,7 @@ use Rattle.sheet.proofs.LineAsking.{reading-asks, sealing-asks}
 use Rattle.answers.specs.Calls.{writing}
 use Rattle.sealed_sheets.proofs.WrittenChecks.{sealed-no}
 use Rattle.sealed_sheets.proofs.Demand2.{sealing-is-right}
+use Rattle.changed_sheets.proofs.Answered.{change-answers-in-order}
 use Rattle.trail_reports.proofs.Demand2.{sheet-reports-are-right}
 use Rattle.clauses.proofs.Demand3.{every-sheet-pairs}
 use Rattle.demands.specs.Demands.{FirstNo, Demands}
@@ -74,6 +75,7 @@ demands = record {
     refused-unwritten = unwritten;
     calls = calls-answer;
     refused-unsealed = λ s number place e. sealed-no s (no-verdict (questions Seal s) (headerOf s) e);
+    refused-unchanged = λ s k d number place e. change-answers-in-order s k d .kept number place e;
   };
   second = record { reports = sheet-reports-are-right; sealing = sealing-is-right };
   third = every-sheet-pairs;

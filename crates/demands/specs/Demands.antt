@@ -13,6 +13,7 @@ use Rattle.sheet.specs.declared.Mode.the-variants.{Seal}
 use Rattle.answers.specs.Calls.{writing}
 use Rattle.sealed_sheets.specs.Sealing.{sealed}
 use Rattle.sealed_sheets.specs.Demands.{SealingIsRight}
+use Rattle.changed_sheets.specs.ChangeCall.{changeCall}
 use Rattle.trail_reports.specs.Demand2.{SheetReportsAreRight}
 use Rattle.clauses.specs.Demand3.{EverySheetPairs}
 use Rattle.demands.specs.Calls.{CallsAnswer}
@@ -27,9 +28,8 @@ pub record FirstNo (qs : List Question) (number place : ℕ) : Type 0 where
 -- Demand 1. A sheet handed in, of any length and content, is accepted or refused by the first failing question of document 01, with
 -- that number and place. Every call returns, checks all its own input, and on a refusal writes to no lent buffer.
 -- Each call on a sheet answers the verdict of its list of questions, whatever it is lent: that is its contract, which requires nothing.
--- Its list begins with those of the reading, or of sealing. What these are, in their order; what a verdict is; and what stands in a
--- lent buffer afterwards where it is a refusal; and the calls that write, but for those
--- for texts and joining, one by one:
+-- Its list begins with those of the reading, or of sealing. What these are, in their order; what a verdict is; what stands in a lent
+-- buffer afterwards where it is a refusal; and the calls that write, but for those for texts, joining, changing and trials, one by one:
 pub record Demand1 : Type 1 where
   pub reading-asks : ReadingAsks
   pub sealing-asks : SealingAsks
@@ -39,6 +39,7 @@ pub record Demand1 : Type 1 where
       → writing asks values out .answer ≡ refused number place → writing asks values out .buffer ≡ out
   pub calls : CallsAnswer
   pub refused-unsealed : (s : List ℕ) (number place : ℕ) → verdict (questions Seal s) (headerOf s) ≡ refused number place → sealed s ≡ s
+  pub refused-unchanged : (s : List ℕ) (k d number place : ℕ) → changeCall s k d .answer ≡ refused number place → changeCall s k d .buffer ≡ s
 
 -- Demand 2. Each line's report is the XOR differential of source document 000: impossible exactly when no operand values fit, else
 -- with the exact number of fitting words or pairs and the weight that bounds it. A sheet that sealing accepts becomes readable, only

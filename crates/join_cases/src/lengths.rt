@@ -1,6 +1,6 @@
 // What joining answers for buffers of three lengths, and leaves in them.
 ghost use Prim.Native.Nat.{_≤_};
-use case_text::checksum::with_number;
+use case_text::checksum::with_bytes;
 use case_text::print::print;
 use case_text::print::print_bytes;
 use case_text::print::print_number;
@@ -32,7 +32,8 @@ fn print_buffer(first: &[u8], second: &[u8], names: &[u64], length: usize)
     print_join(first, second, names, &mut buffer[0..length]);
 }
 
-// The answer of `joining::join`, ` written BYTES` with the bytes after them, or a refusal; and a checksum of what it changed.
+// The answer of `joining::join`, ` written BYTES` with the bytes after them, or a refusal; and a checksum of what it changed, 0 where
+// it changed nothing.
 fn print_join(first: &[u8], second: &[u8], names: &[u64], buffer: &mut [u8]) {
     match join(first, second, names, buffer) {
         JoinAnswer::Written(bytes) => {
@@ -41,7 +42,7 @@ fn print_join(first: &[u8], second: &[u8], names: &[u64], buffer: &mut [u8]) {
         }
         JoinAnswer::Refused(refusal) => print_refused(refusal.number, refusal.place),
     }
-    print_number(b", checksum ", changes(buffer));
+    print_number(b", checksum ", with_bytes(0, buffer, 0xA5));
 }
 
 // The bytes from a position on.
@@ -51,13 +52,4 @@ fn print_rest(buffer: &[u8], from: usize) {
         print_bytes(&buffer[from..]);
         print(b"]");
     }
-}
-
-// A checksum of the bits in which each byte is not A5: 0 where all bytes are.
-fn changes(buffer: &[u8]) -> u64 {
-    let mut checksum = 0;
-    for i in 0..buffer.len() {
-        checksum = with_number(checksum, buffer[i] as u64 ^ 0xA5);
-    }
-    checksum
 }

@@ -15,7 +15,11 @@ ghost use Rattle.clauses_c.specs.Calls.{countsCall};
 ghost use Rattle.clause_file.specs.Parts.{clauseTextCall};
 ghost use Rattle.report_file.specs.Parts.{reportTextCall};
 ghost use Rattle.joined_sheets.specs.JoinCall.{joinCall};
+ghost use Rattle.changed_sheets.specs.ChangeCall.{changeCall};
+ghost use Rattle.tried_changes.specs.TrialCall.{trialCall};
 use answers::Answer;
+use changing_c::change;
+use changing_c::trial;
 use clauses_c::clause_counts;
 use clauses_c::line_clauses;
 use joining_c::join;
@@ -129,4 +133,27 @@ pub extern "C" fn tablegull_join(
         × (now (out .exit) ≡ joinCall (now (first .entry)) (now (second .entry)) (now (names .entry)) (now (out .entry)) .buffer) ⌝ }
 {
     join(first, second, names, out)
+}
+
+// Replaces one stated difference and renews the check of its block. Counts nothing.
+#[no_mangle]
+pub extern "C" fn tablegull_change(sheet: &mut [u8], line: u64, difference: u64) -> Answer
+    ensures { λ r. ⌜ (r ≡ answerOf (changeCall (now (sheet .entry)) line difference .answer))
+        × (now (sheet .exit) ≡ changeCall (now (sheet .entry)) line difference .buffer) ⌝ }
+{
+    change(sheet, line, difference)
+}
+
+// Writes the report buffer that the sheet would have with one stated difference replaced. Counts bytes.
+#[no_mangle]
+pub extern "C" fn tablegull_trial(
+    sheet: &[u8],
+    line: u64,
+    difference: u64,
+    out: &mut [u8],
+) -> Answer
+    ensures { λ r. ⌜ (r ≡ answerOf (trialCall (now (sheet .entry)) line difference (now (out .entry)) .answer))
+        × (now (out .exit) ≡ trialCall (now (sheet .entry)) line difference (now (out .entry)) .buffer) ⌝ }
+{
+    trial(sheet, line, difference, out)
 }

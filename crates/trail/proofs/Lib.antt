@@ -10,3 +10,5 @@ pub mod JoinedLines
 pub mod JoinedWellFormed
 pub mod JoinedRuns
 pub mod JoinedExample
+pub mod ChangedExample
+pub mod Changed

@@ -4,3 +4,4 @@ pub mod Runs
 pub mod WellFormed
 pub mod Repeats
 pub mod Joining
+pub mod Changing

@@ -1,6 +1,7 @@
 // Every public call, and every exported one, made with arguments of which nothing is known: so none of them requires anything. A call
 // that required something would not be proved here. Nothing uses these functions.
 use answers::Refusal;
+use tablegull::tablegull_change;
 use tablegull::tablegull_clause_counts;
 use tablegull::tablegull_clause_text;
 use tablegull::tablegull_join;
@@ -11,6 +12,7 @@ use tablegull::tablegull_report;
 use tablegull::tablegull_report_text;
 use tablegull::tablegull_seal;
 use tablegull::tablegull_totals;
+use tablegull::tablegull_trial;
 use tablegull::tablegull_two_runs;
 
 // The public calls.
@@ -38,6 +40,12 @@ pub fn in_rattle_refused(refusal: Refusal, out: &mut [u8; 64]) {
     texts::refusal_text(refusal, out);
 }
 
+// Those on a line's stated difference.
+pub fn in_rattle_changed(sheet: &mut [u8], line: usize, difference: u64, out: &mut [u8]) {
+    changing::trial(sheet, line, difference, out);
+    changing::change(sheet, line, difference);
+}
+
 // The exported calls on a sheet's bytes.
 pub fn on_bytes(sheet: &mut [u8], number: u64, out: &mut [u8]) {
     tablegull_read(sheet);
@@ -63,4 +71,10 @@ pub fn on_numbers(sheet: &[u8], line: u64, out: &mut [i32]) {
 // The one that takes two sheets.
 pub fn on_two_sheets(first: &[u8], second: &[u8], names: &[u64], out: &mut [u8]) {
     tablegull_join(first, second, names, out);
+}
+
+// Those on a line's stated difference.
+pub fn on_a_difference(sheet: &mut [u8], line: u64, difference: u64, out: &mut [u8]) {
+    tablegull_trial(sheet, line, difference, out);
+    tablegull_change(sheet, line, difference);
 }

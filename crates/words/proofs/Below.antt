@@ -1,16 +1,17 @@
 -- Laws of tests, counts, sums and lists over the numbers below a bound.
 use mathlib.Core.Path.{_≡_, refl, sym, ap, ap₂, subst, _∙_}
+use mathlib.Core.Logic.{_≢_}
 use mathlib.Core.Bool.{Bool, true, false, _&&_, _||_, cond, and-assoc, and-eq-true-iff, and-true, or-false, or-true, or-assoc, true≢false}
 use mathlib.Core.List.{List, [], _∷_, _++_, map, append-nil, append-assoc}
 use Prim.Native.Nat.{ℕ, zero, suc, _+_, _-_, _*_, _/_, _%_, _≤_, _<_}
-use native.Mathlib.Decide.{decLt}
+use native.Mathlib.Decide.{decLt, ℕ-discrete}
 use native.Mathlib.Nat.{add-zero, mul-add, mul-zero, suc-mul, zero-mul}
 use native.Mathlib.Numerals.{add-one}
 use native.Mathlib.Omega.{arith}
 use borrow.Author.Count.{below-none}
 use lib.Arith.{digits-div, digits-mod}
-use lib.ListN.{length, getD, length-append, List·getD-append}
-use lib.Seq.{getD-at}
+use lib.ListN.{length, getD, set, length-set, length-append, List·getD-append}
+use lib.Seq.{getD-at, getD-set-same, getD-set-other, ext-getD}
 use Rattle.words.specs.Words.{value}
 use Rattle.words.specs.Below.{all, any, count, total, tabulate, concat}
 use Rattle.words.proofs.Bits.{value-lt}
@@ -279,6 +280,25 @@ module _ {A : Type 0} where
       (λ k less. List·getD-append (tabulate b f) (f b ∷ []) d k (omega (arith, length-tabulate b f)) ∙ getD-tabulate b f k d less)
       (getD-at (tabulate b f) (f b) [] d b (length-tabulate b f))
       k l
+
+  -- one value changed
+  pub tabulate-set : (b : ℕ) (f g : ℕ → A) (k : ℕ) {v : A} → k < b → f k ≡ v → ((i : ℕ) → i ≢ k → f i ≡ g i)
+      → tabulate b f ≡ set (tabulate b g) k v
+  tabulate-set b f g k {v} inside here others =
+      ext-getD v (tabulate b f) (set (tabulate b g) k v) (length-tabulate b f ∙ sym (length-set (tabulate b g) k v ∙ length-tabulate b g))
+      (λ i l. at i (omega (arith, length-tabulate b f)) (ℕ-discrete i k))
+    where
+      at : (i : ℕ) → i < b → Dec (i ≡ k) → getD (tabulate b f) i v ≡ getD (set (tabulate b g) k v) i v
+      at i l (yes e) =
+          getD-tabulate b f i v l
+          ∙ ap f e
+          ∙ here
+          ∙ sym (getD-set-same (tabulate b g) k v v (omega (arith, length-tabulate b g)))
+          ∙ ap (λ (n : ℕ). getD (set (tabulate b g) k v) n v) (sym e)
+      at i l (no other) =
+          getD-tabulate b f i v l
+          ∙ others i other
+          ∙ sym (getD-set-other (tabulate b g) k i v v other ∙ getD-tabulate b g i v l)
 
   pub concat-cong : (b : ℕ) (f g : ℕ → List A) → ((k : ℕ) → k < b → f k ≡ g k) → concat b f ≡ concat b g
   unfolding concat

@@ -13,8 +13,9 @@
 //! lent buffer; beside it the reference's lists go through this package's fast
 //! writer of text, as the archive's do in the rows by lists.
 //!
-//! Below stand the times of totals measured by the report of the same sheet,
-//! medians over the rounds again, and how long the archive may take at most.
+//! Below stand the times of totals and of trials measured by the report of the
+//! same sheet, medians over the rounds again, and how long the archive may take at
+//! most.
 
 use std::fs::{File, OpenOptions};
 use std::hint::black_box;
@@ -22,7 +23,7 @@ use std::io;
 use std::time::{Duration, Instant};
 
 use tablegull::builder::{Line, SheetBuilder};
-use tablegull::reference::{self, Sheet};
+use tablegull::reference::{self, LineReport, Sheet};
 use tablegull::text::TextWriter;
 use tablegull::{
     Refusal, LINE_REPORT, MAX_CLAUSE_TEXT, MAX_LINES, MAX_LINE_CLAUSES, MAX_REPORT_TEXT, MAX_SHEET,
@@ -45,22 +46,39 @@ fn main() {
     let same_operands = sheet_of_sums(1);
     let few_operands = sheet_of_sums(2);
     let constants = sheet_of(&[6], MAX_LINES);
+    let cheap = sheet_of(&[1, 2, 3, 4], MAX_LINES);
+    let of_one_word = sheet_of_one_word(MAX_LINES);
+    let single = sheet_of_one_word(1);
     for sheet in [&additions, &same_operands, &few_operands] {
         assert_every_line_charged(sheet);
     }
+    for sheet in [&of_one_word, &single] {
+        assert_sums_stay_possible(sheet);
+    }
+    let middle = MAX_LINES / 2;
     let mut cases = [
         Case::new("read, all kinds mixed", read(&mixed)),
         Case::new("seal, all kinds mixed", seal(&mixed)),
+        Case::new("change, mixed", change(&mixed, middle)),
         Case::new("one report, mixed", line_report(&mixed)),
         Case::new("report, all kinds mixed", report(&mixed)),
+        Case::new("trial, all kinds mixed", trial(&mixed, middle)),
         Case::new("totals, all kinds mixed", totals(&mixed)),
+        Case::new("report, kinds 1 to 4", report(&cheap)),
+        Case::new("trial, kinds 1 to 4", trial(&cheap, middle)),
         Case::new("report, kind 5 only", report(&additions)),
+        Case::new("trial, kind 5 only", trial(&additions, middle)),
         Case::new("totals, kind 5 only", totals(&additions)),
         Case::new("report, kind 5, same operands", report(&same_operands)),
         Case::new("totals, kind 5, same operands", totals(&same_operands)),
         Case::new("report, kind 5, few operands", report(&few_operands)),
         Case::new("totals, kind 5, few operands", totals(&few_operands)),
         Case::new("report, kind 6 only", report(&constants)),
+        Case::new("trial, kind 6 only", trial(&constants, middle)),
+        Case::new("report, all name line 0's word", report(&of_one_word)),
+        Case::new("trial, all name line 0's word", trial(&of_one_word, 0)),
+        Case::new("report, one line", report(&single)),
+        Case::new("trial, one line", trial(&single, 0)),
         Case::new("two runs that follow, mixed", two_runs(&mixed)),
         Case::new("clause counts, mixed", clause_counts(&mixed)),
         Case::new("one list, kind 5", list(&additions)),
@@ -85,7 +103,7 @@ fn main() {
             }
         }
     }
-    println!("n = 32, m = 8, L = {MAX_LINES}; times of one call");
+    println!("n = 32, m = 8, L = {MAX_LINES} where no other number is named; times of one call");
     let long_rounds = ROUNDS / ROUNDS_TO_A_LONG_ONE;
     println!("{ROUNDS} rounds, of the texts {long_rounds}");
     if ARCHIVE.is_none() {
@@ -97,7 +115,7 @@ fn main() {
     }
     println!();
     print_row("totals / report", "archive", "reference", "at most", "");
-    print_bound(&cases, "all kinds mixed", 1.5, ratio);
+    print_bound(&cases, "totals", "all kinds mixed", 1.5, ratio);
     println!();
     let if_5_us = "totals if the report took 5 us";
     print_row(if_5_us, "archive", "reference", "at most", "");
@@ -106,23 +124,35 @@ fn main() {
         "kind 5, same operands",
         "kind 5, few operands",
     ] {
-        print_bound(&cases, sheet, 8.0, |reports| time(5e3 * reports));
+        print_bound(&cases, "totals", sheet, 8.0, |reports| time(5e3 * reports));
+    }
+    println!();
+    print_row("trial / report", "archive", "reference", "at most", "");
+    for sheet in [
+        "all kinds mixed",
+        "kinds 1 to 4",
+        "kind 5 only",
+        "kind 6 only",
+        "all name line 0's word",
+        "one line",
+    ] {
+        print_bound(&cases, "trial", sheet, 1.2, ratio);
     }
 }
 
-/// Prints how long the totals of a sheet take, its report being the unit, and
+/// Prints how long a call on a sheet takes, the sheet's report being the unit, and
 /// how long the archive may take at most.
-fn print_bound(cases: &[Case], sheet: &str, most: f64, text: fn(f64) -> String) {
+fn print_bound(cases: &[Case], call: &str, sheet: &str, most: f64, text: fn(f64) -> String) {
     let case = |call: &str| {
         let name = format!("{call}, {sheet}");
         let mut cases = cases.iter();
         cases.find(|case| case.name == name).expect("a case")
     };
-    let (totals, report) = (case("totals"), case("report"));
+    let (call, report) = (case(call), case("report"));
     print_row(
         sheet,
-        &shown(median_ratio(&totals.archive, &report.archive), text),
-        &shown(median_ratio(&totals.reference, &report.reference), text),
+        &shown(median_ratio(&call.archive, &report.archive), text),
+        &shown(median_ratio(&call.reference, &report.reference), text),
         &text(most),
         "",
     );
@@ -149,6 +179,8 @@ struct Calls {
     clause_text_part: Option<TextPart>,
     report_text_part: TextPart,
     join: Join,
+    change: fn(&mut [u8], usize, u64) -> Outcome,
+    trial: fn(&[u8], usize, u64, &mut [u8]) -> Outcome,
 }
 
 const REFERENCE: Calls = Calls {
@@ -163,6 +195,8 @@ const REFERENCE: Calls = Calls {
     clause_text_part: None,
     report_text_part: reference::report_text_part,
     join: reference::join,
+    change: reference::change,
+    trial: reference::trial,
 };
 
 #[cfg(has_archive)]
@@ -178,6 +212,8 @@ const ARCHIVE: Option<Calls> = Some(Calls {
     clause_text_part: Some(tablegull::slices::clause_text_part),
     report_text_part: tablegull::slices::report_text_part,
     join: tablegull::slices::join,
+    change: tablegull::slices::change,
+    trial: tablegull::slices::trial,
 });
 
 #[cfg(not(has_archive))]
@@ -194,6 +230,21 @@ fn seal(sheet: &[u8]) -> impl FnMut(Calls) {
     let mut sheet = sheet.to_vec();
     move |calls| {
         black_box((calls.seal)(black_box(&mut sheet))).expect("accepted");
+    }
+}
+
+/// A line's difference is changed to and fro.
+fn change(sheet: &[u8], line: usize) -> impl FnMut(Calls) {
+    let mut sheet = sheet.to_vec();
+    let mut difference = OLD_DIFFERENCE;
+    move |calls| {
+        difference ^= OLD_DIFFERENCE ^ NEW_DIFFERENCE;
+        black_box((calls.change)(
+            black_box(&mut sheet),
+            line,
+            difference.into(),
+        ))
+        .expect("accepted");
     }
 }
 
@@ -230,6 +281,14 @@ fn report(sheet: &[u8]) -> impl FnMut(Calls) + '_ {
     let mut out = [0; LINE_REPORT * MAX_LINES];
     move |calls| {
         (calls.report)(black_box(sheet), &mut out).expect("accepted");
+        black_box(&out);
+    }
+}
+
+fn trial(sheet: &[u8], line: usize) -> impl FnMut(Calls) + '_ {
+    let mut out = [0; LINE_REPORT * MAX_LINES];
+    move |calls| {
+        (calls.trial)(black_box(sheet), line, NEW_DIFFERENCE.into(), &mut out).expect("accepted");
         black_box(&out);
     }
 }
@@ -536,6 +595,52 @@ fn sheet_of_sums(choices: usize) -> Vec<u8> {
         }
     }
     sealed(&differences, &lines)
+}
+
+/// What a line is changed to, and back; with the new one trials are made.
+const OLD_DIFFERENCE: u32 = 0x10;
+const NEW_DIFFERENCE: u32 = 0x70;
+
+/// A sheet of so many lines where every line after the first names the first one's
+/// word. Its sums can happen with the old difference of that word and with the new
+/// one, and in one bit the differences of word and sum are not alike, either way: so
+/// the work is the same.
+fn sheet_of_one_word(count: usize) -> Vec<u8> {
+    let mut random = Random(3);
+    let differences = [OLD_DIFFERENCE, 0, 0, 0, 0, 0, 0, 0];
+    let word = differences.len() as u16;
+    let of_sums = 0x30;
+    let later = (1..count).map(|line| {
+        let other = 1 + (random.word() % 7) as u16;
+        // Bit 0, so that there may be a carry into bit 4 and may be none; of bits 4
+        // and 5 the upper one, so that either carry leads to the sum's difference.
+        let constant = random.word() & !0x10 | 0x21;
+        match line % 6 {
+            0 => Line::xor(word, other, OLD_DIFFERENCE),
+            1 => Line::add(word, other, of_sums),
+            2 => Line::add_constant(word, constant, of_sums),
+            3 => Line::add(other, word, of_sums),
+            4 => Line::rotate_left(word, 1, OLD_DIFFERENCE << 1),
+            _ => Line::subtract(word, other, of_sums),
+        }
+    });
+    let first = Line::add(0, 1, OLD_DIFFERENCE);
+    let lines: Vec<Line> = [first].into_iter().chain(later).collect();
+    sealed(&differences, &lines)
+}
+
+/// No line is impossible, and with the new difference in line 0 only such lines are
+/// as were certain.
+fn assert_sums_stay_possible(sheet: &[u8]) {
+    let mut changed = sheet.to_vec();
+    reference::change(&mut changed, 0, NEW_DIFFERENCE.into()).expect("accepted");
+    let (old, new) = (Sheet::read(sheet), Sheet::read(&changed));
+    let (old, new) = (old.expect("accepted"), new.expect("accepted"));
+    for line in 0..old.line_count() {
+        let (old, new) = (old.line_report(line), new.line_report(line));
+        assert_ne!(old, LineReport::Impossible);
+        assert!(new != LineReport::Impossible || old == LineReport::Certain);
+    }
 }
 
 fn sealed(differences: &[u32], lines: &[Line]) -> Vec<u8> {

@@ -1,5 +1,5 @@
 //! The trail checker in plain Rust, written from documents 01 and 02; all but
-//! joining, question 23 and the texts from these alone.
+//! joining, question 23, the texts and changes from these alone.
 //!
 //! The calls have the signatures and the order of refusals of the archive's
 //! calls in the module `slices`. They share no code with the archive, so that
@@ -8,6 +8,7 @@
 //! [`Sheet`] reads once and answers many times, for programs that go through
 //! all lines.
 
+mod changing;
 mod clauses;
 mod joining;
 mod line_report;
@@ -127,6 +128,20 @@ pub fn report_text_part(sheet: &[u8], part: usize, out: &mut [u8]) -> Result<usi
 /// word of the first that it is. Answers the number of bytes written.
 pub fn join(first: &[u8], second: &[u8], names: &[u64], out: &mut [u8]) -> Result<usize, Refusal> {
     joining::join(first, second, names, out)
+}
+
+/// Replaces the difference that a line states, and renews the check of the line's
+/// block. Answers 0.
+pub fn change(sheet: &mut [u8], line: usize, difference: u64) -> Result<usize, Refusal> {
+    changing::change(sheet, line, difference)?;
+    Ok(0)
+}
+
+/// Writes the reports of all lines in order, 16 bytes each, that the sheet would
+/// have if [`change`] put this difference into this line. Answers the number of
+/// bytes written.
+pub fn trial(sheet: &[u8], line: usize, difference: u64, out: &mut [u8]) -> Result<usize, Refusal> {
+    changing::trial(sheet, line, difference, out)
 }
 
 /// Is the line number below L? 17

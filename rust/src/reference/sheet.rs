@@ -1,5 +1,5 @@
 //! The sheet's layout, the questions about it, sealing, and writing with more
-//! lines.
+//! lines or with another difference.
 
 use super::{refuse, refuse_unless};
 use crate::{Refusal, MAX_LINES, MAX_SHEET};
@@ -9,6 +9,7 @@ const CHECK: usize = 508;
 const LINES_IN_BLOCK: usize = 31;
 const RECORD: usize = 16;
 const RECORDS_END: usize = LINES_IN_BLOCK * RECORD;
+const DIFFERENCE_IN_RECORD: usize = 12;
 const MARK: [u8; 4] = [0x41, 0x52, 0x58, 0x54];
 const MAX_INPUTS: usize = 8;
 const INPUTS_START: usize = 8;
@@ -243,9 +244,21 @@ pub(super) fn seal(bytes: &mut [u8]) -> Result<usize, Refusal> {
 
 fn write_checks(bytes: &mut [u8]) {
     for (index, block) in bytes.chunks_exact_mut(BLOCK).enumerate() {
-        let check = block_check(block, index);
-        block[CHECK..].copy_from_slice(&check.to_le_bytes());
+        write_check(block, index);
     }
+}
+
+fn write_check(block: &mut [u8], index: usize) {
+    let check = block_check(block, index);
+    block[CHECK..].copy_from_slice(&check.to_le_bytes());
+}
+
+/// Writes the difference that a line states, and the check of the line's block.
+pub(super) fn write_difference(bytes: &mut [u8], line: usize, difference: u32) {
+    let start = record_start(line) + DIFFERENCE_IN_RECORD;
+    bytes[start..start + 4].copy_from_slice(&difference.to_le_bytes());
+    let index = block_of(line);
+    write_check(&mut bytes[BLOCK * index..BLOCK * (index + 1)], index);
 }
 
 /// Questions 3 to 16, and in sealing 23. The compiler knows which it is, so that
@@ -316,9 +329,14 @@ fn line_blocks(bytes: &[u8]) -> std::slice::ChunksExact<'_, u8> {
     blocks(&bytes[BLOCK..])
 }
 
+/// The index of the block that a line's record is in.
+fn block_of(line: usize) -> usize {
+    1 + line / LINES_IN_BLOCK
+}
+
 /// Where a line's record starts.
 fn record_start(line: usize) -> usize {
-    BLOCK * (1 + line / LINES_IN_BLOCK) + RECORD * (line % LINES_IN_BLOCK)
+    BLOCK * block_of(line) + RECORD * (line % LINES_IN_BLOCK)
 }
 
 fn input_difference(bytes: &[u8], word: usize) -> u32 {

@@ -4,7 +4,9 @@
 // Each test file is compiled with this module and uses a part of it.
 #![allow(dead_code)]
 
+pub mod changing;
 pub mod damage;
+pub mod lending;
 pub mod pairs;
 pub mod sealing;
 pub mod texts;
@@ -18,7 +20,7 @@ pub type Outcome = Result<usize, Refusal>;
 
 type Join = fn(&[u8], &[u8], &[u64], &mut [u8]) -> Outcome;
 
-/// The eleven calls of one implementation.
+/// The thirteen calls of one implementation.
 #[derive(Clone, Copy)]
 pub struct Calls {
     pub name: &'static str,
@@ -33,6 +35,8 @@ pub struct Calls {
     pub clause_text_part: fn(&[u8], usize, &mut [u8]) -> Outcome,
     pub report_text_part: fn(&[u8], usize, &mut [u8]) -> Outcome,
     pub join: Join,
+    pub change: fn(&mut [u8], usize, u64) -> Outcome,
+    pub trial: fn(&[u8], usize, u64, &mut [u8]) -> Outcome,
 }
 
 pub const REFERENCE: Calls = Calls {
@@ -48,6 +52,8 @@ pub const REFERENCE: Calls = Calls {
     clause_text_part: reference::clause_text_part,
     report_text_part: reference::report_text_part,
     join: reference::join,
+    change: reference::change,
+    trial: reference::trial,
 };
 
 #[cfg(has_archive)]
@@ -64,6 +70,8 @@ pub const ARCHIVE: Calls = Calls {
     clause_text_part: tablegull::slices::clause_text_part,
     report_text_part: tablegull::slices::report_text_part,
     join: tablegull::slices::join,
+    change: tablegull::slices::change,
+    trial: tablegull::slices::trial,
 };
 
 /// The reference, and the archive where it is there.

@@ -1,6 +1,7 @@
 //! Pairs of programs to be joined, a plain model of joining, and the call with
 //! every lent byte looked at.
 
+use super::lending::written;
 use super::{disturb, random_program, random_steps, Calls, Program, Random, REFERENCE};
 use tablegull::Refusal;
 
@@ -112,21 +113,14 @@ impl Calls {
         room: usize,
     ) -> Result<Vec<u8>, Refusal> {
         let read_only = (first.to_vec(), second.to_vec(), names.to_vec());
-        let guard = 1 + room % 8;
-        let before: Vec<u8> = (0..room + 2 * guard)
-            .map(|at| (at * 37 + 11) as u8)
-            .collect();
-        let mut lent = before.clone();
-        let answer = (self.join)(first, second, names, &mut lent[guard..guard + room]);
-        let end = guard + answer.unwrap_or(0);
-        assert!(lent[..guard] == before[..guard], "{}: before", self.name);
-        assert!(lent[end..] == before[end..], "{}: rest", self.name);
+        let case = || format!("{}: room {room}", self.name);
+        let answer = written(case, room, |out| (self.join)(first, second, names, out));
         assert!(
             (first, second, names) == (&read_only.0, &read_only.1, &read_only.2),
             "{}: what is only read was written",
             self.name
         );
-        answer.map(|_| lent[guard..end].to_vec())
+        answer
     }
 
     /// The joined sheet is accepted, and each line has the report that it had.

@@ -1,6 +1,7 @@
 //! The two texts of a sheet: what each part has to be by lists, reports and
 //! totals, and the calls with every lent byte looked at.
 
+use super::lending::written;
 use super::{implementations, Calls, Random, REFERENCE};
 use tablegull::{Refusal, MAX_CLAUSE_TEXT, MAX_REPORT_TEXT};
 
@@ -95,18 +96,10 @@ impl Calls {
             Text::Report => self.report_text_part,
         };
         let read_only = sheet.to_vec();
-        let guard = 1 + (room + part % 8) % 8;
-        let before: Vec<u8> = (0..room + 2 * guard)
-            .map(|at| (at * 37 + room + part % 256) as u8)
-            .collect();
-        let mut lent = before.clone();
-        let answer = call(sheet, part, &mut lent[guard..guard + room]);
-        let end = guard + answer.unwrap_or(0);
         let case = || format!("{}: {text:?}, part {part}, room {room}", self.name);
-        assert!(lent[..guard] == before[..guard], "{}: before", case());
-        assert!(lent[end..] == before[end..], "{}: rest", case());
+        let answer = written(case, room, |out| call(sheet, part, out));
         assert!(sheet == read_only, "{}: the sheet was written", case());
-        answer.map(|_| lent[guard..end].to_vec())
+        answer
     }
 
     /// A whole text of an accepted sheet: its parts, one after the other, each

@@ -1,0 +1,5 @@
+pub mod ChangedSheet
+pub mod Theorem
+pub mod SelfXor
+pub mod ChangeCall
+pub mod Answered

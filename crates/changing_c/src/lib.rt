@@ -1,0 +1,32 @@
+// A change and a trial as C takes them: a struct for the answer.
+ghost use mathlib.Core.Path.{_≡_};
+ghost use Rattle.answers.specs.Answers.{answerOf};
+ghost use Rattle.changed_sheets.specs.ChangeCall.{changeCall};
+ghost use Rattle.tried_changes.specs.TrialCall.{trialCall};
+use answers::Answer;
+use changing::ChangeAnswer;
+use report::BufferAnswer;
+
+// Changes one stated difference. Counts nothing.
+pub fn change(sheet: &mut [u8], line: u64, difference: u64) -> Answer
+    ensures { λ r. ⌜ (r ≡ answerOf (changeCall (now (sheet .entry)) line difference .answer))
+        × (now (sheet .exit) ≡ changeCall (now (sheet .entry)) line difference .buffer) ⌝ }
+{
+    let answer = changing::change(sheet, line as usize, difference);
+    match answer {
+        ChangeAnswer::Changed => Answer::counted(0),
+        ChangeAnswer::Refused(refusal) => Answer::refusing(refusal),
+    }
+}
+
+// Writes the report that the sheet would have. Counts bytes.
+pub fn trial(sheet: &[u8], line: u64, difference: u64, out: &mut [u8]) -> Answer
+    ensures { λ r. ⌜ (r ≡ answerOf (trialCall (now (sheet .entry)) line difference (now (out .entry)) .answer))
+        × (now (out .exit) ≡ trialCall (now (sheet .entry)) line difference (now (out .entry)) .buffer) ⌝ }
+{
+    let answer = changing::trial(sheet, line as usize, difference, out);
+    match answer {
+        BufferAnswer::Written(bytes) => Answer::counted(bytes),
+        BufferAnswer::Refused(refusal) => Answer::refusing(refusal),
+    }
+}

@@ -1,0 +1,3 @@
+pub mod TrialCall
+pub mod Theorem
+pub mod Answered
