@@ -7,9 +7,10 @@ use mathlib.Core.Bool.{Bool, true, false, _&&_, cond}
 use mathlib.Core.List.{List, [], _++_, append-nil}
 use borrow.Author.Tests.{lt-ltb, le-ltb, le-leb, lt-leb}
 use lib.Dec.{leb, ltb}
-use lib.ListN.{length, take}
+use lib.ListN.{length, take, drop}
+use lib.Seq.{take-at}
 use Rattle.buffers.specs.Overwrite.{overwrite, Wrote}
-use Rattle.buffers.proofs.Overwrite.{take-overwrite}
+use Rattle.buffers.proofs.Overwrite.{take-overwrite, drop-overwrite}
 use Rattle.sheet.specs.Asking.{Question, allYes, Verdict, verdict}
 use Rattle.sheet.specs.Asking.Verdict.{accepted, refused}
 use Rattle.sheet.specs.Fields.{headerOf}
@@ -152,6 +153,21 @@ written-values asks values out passed room =
     ap₂ writtenAs (verdict-yes asks (length values) passed) (ap (λ (t : Bool). cond t (overwrite 0 values out) out) passed)
     ∙ ap (λ (n : ℕ). take n (overwrite 0 values out)) (sym (zero-add (length values)))
     ∙ take-overwrite 0 values out (omega arith)
+
+-- A call that was not refused has its values at the buffer's start, and has kept the rest.
+module _ {A : Type 0} (asks : List Question) (values out : List A) {n : ℕ} (answered : writing asks values out .answer ≡ accepted n) where
+  pub values-taken : take n (writing asks values out .buffer) ≡ values
+  unfolding writing overwrite
+  values-taken =
+      let told = yes-verdict asks (length values) n answered in
+      ap (λ (t : Bool). take n (cond t (overwrite 0 values out) out)) (told .0) ∙ take-at values _ n (told .1)
+
+  pub rest-kept : length values ≤ length out → drop n (writing asks values out .buffer) ≡ drop n out
+  unfolding writing
+  rest-kept room =
+      let told = yes-verdict asks (length values) n answered in
+      ap (λ (t : Bool). drop n (cond t (overwrite 0 values out) out)) (told .0)
+      ∙ drop-overwrite 0 values out (omega arith) n (omega (arith, told .1))
 
 -- and a call that is refused has written nothing
 pub written-nothing : {A : Type 0} (asks : List Question) (values out : List A) {n p : ℕ} → verdict asks (length values) ≡ refused n p

@@ -67,12 +67,14 @@ module _ (s : List ℕ) (k d : ℕ) (accepts : IsAccepted s) (known : k < header
       getD-overwrite-outside (checkPosition b) _ (withStated s k d) check-fits i 0
       (⊎-elim inl (λ l. inr (omega (arith, length-bytesOf 4 (checkOf (withStated s k d) b)))) o)
 
+  pub outside-field : (i : ℕ) → Outside (differencePosition f k) (wordBytes f) i → byteAt (withStated s k d) i ≡ byteAt s i
+  outside-field i o =
+      getD-overwrite-outside (differencePosition f k) _ s stated-fits i 0
+      (⊎-elim inl (λ l. inr (omega (arith, length-bytesOf (wordBytes f) d))) o)
+
   pub other-bytes : (i : ℕ) → Outside (differencePosition f k) (wordBytes f) i → Outside (checkPosition b) 4 i
       → byteAt (changedSheet s k d) i ≡ byteAt s i
-  other-bytes i o c =
-      outside-check i c
-      ∙ getD-overwrite-outside (differencePosition f k) _ s stated-fits i 0
-      (⊎-elim inl (λ l. inr (omega (arith, length-bytesOf (wordBytes f) d))) o)
+  other-bytes i o c = outside-check i c ∙ outside-field i o
 
   -- a stretch of bytes before or behind the field, and before or behind the check
   pub same-stretch : (i n : ℕ) → (i + n ≤ differencePosition f k) ⊎ (differencePosition f k + wordBytes f ≤ i)

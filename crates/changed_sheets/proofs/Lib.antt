@@ -4,3 +4,4 @@ pub mod ChangedQuestions
 pub mod Changed
 pub mod SelfXor
 pub mod Answered
+pub mod Stage

@@ -1,15 +1,12 @@
 -- A call that was not refused has read two accepted sheets and a list of names that passes, and has written their joined sheet; one
 -- that was refused has written nothing.
 use Prim.Native.Nat.{ℕ, _+_}
-use native.Mathlib.Omega.{arith}
 use mathlib.Core.Path.{_≡_, sym, ap, _∙_}
 use mathlib.Core.Bool.{Bool, cond}
 use mathlib.Core.List.{List, _++_}
 use borrow.Author.Tests.{leb-true, le-leb, lt-leb, ne-eqb, eq-eqb}
-use lib.ListN.{length, take, drop}
-use lib.Seq.{take-at}
+use lib.ListN.{length}
 use Rattle.buffers.specs.Overwrite.{overwrite}
-use Rattle.buffers.proofs.Overwrite.{drop-overwrite}
 use Rattle.trail.specs.WellFormed.{mostLines}
 use Rattle.sheet.specs.Asking.{Question, Verdict, verdict}
 use Rattle.sheet.specs.Fields.{headerOf}
@@ -18,15 +15,11 @@ use Rattle.sheet.specs.declared.Mode.the-variants.{Read}
 use Rattle.sheet.proofs.Asking.{yes-left, yes-right, yes-both, yes-first, yes-one, yes-verdict, no-verdict, verdict-yes, go-on, stop, Comes, comes}
 use Rattle.sheet.proofs.Asking.Comes.{yes, no}
 use Rattle.answers.specs.Calls.{writing}
+use Rattle.answers.proofs.Calling.{values-taken, rest-kept}
 use Rattle.joined_sheets.specs.JoinedSheet.{joinQuestions, joinedSheet}
 use Rattle.joined_sheets.proofs.Joined.{joined-sheets-are-right}
 use Rattle.joined_sheets.specs.JoinCall.{joinAsks, joinCall}
 use Rattle.joined_sheets.specs.Answered.{WritesTheJoinedSheet, JoinsWhatPasses, JoinRefusesInOrder}
-
--- what stands at the start after it was written there
-take-written : (new out : List ℕ) {n : ℕ} → length new ≡ n → take n (overwrite 0 new out) ≡ new
-unfolding overwrite
-take-written new out {n} long = take-at new _ n long
 
 pub writes-the-joined-sheet : WritesTheJoinedSheet
 unfolding writing
@@ -42,10 +35,8 @@ writes-the-joined-sheet first second names out n answered =
           (yes-left (questions Read first) _ (told .0))
           (yes-left (questions Read second) _ later)
           (yes-left (joinQuestions first second names) _ own);
-      written = ap (λ (t : Bool). take n (cond t (overwrite 0 sheet out) out)) (told .0) ∙ take-written sheet out (told .1);
-      rest =
-          ap (λ (t : Bool). drop n (cond t (overwrite 0 sheet out) out)) (told .0)
-          ∙ drop-overwrite 0 sheet out (omega (arith, room)) n (omega (arith, told .1));
+      written = values-taken (joinAsks first second names out) sheet out answered;
+      rest = rest-kept (joinAsks first second names out) sheet out answered room;
     }
 
 pub joins-what-passes : JoinsWhatPasses

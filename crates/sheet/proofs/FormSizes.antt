@@ -91,6 +91,15 @@ pub records-apart : (f : Form) (i k : ℕ) → i < k → recordPosition f i + re
 unfolding recordPosition
 records-apart Narrow i k l = omega arith
 
+-- a word takes whole numbers of 32 bits, and so does what stands before a line's difference in its block
+pub word-numbers : (f : Form) → wordBytes f ≡ 4 * (wordBytes f / 4)
+word-numbers Narrow = refl
+
+pub difference-numbers : (f : Form) (k : ℕ)
+    → recordPosition f k + 8 + wordBytes f ≡ blockBytes * (1 + k / recordsInBlock f) + 4 * ((recordBytes f * (k % recordsInBlock f) + 8 + wordBytes f) / 4)
+unfolding recordPosition
+difference-numbers Narrow k = omega arith
+
 -- the lines before a block are fewer than the bytes before it
 pub lines-before : (f : Form) (i : ℕ) → recordsInBlock f * i ≤ blockBytes * i
 lines-before Narrow i = omega arith

@@ -1,1 +1,2 @@
+pub mod Renewed
 pub mod Written

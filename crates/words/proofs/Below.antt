@@ -227,6 +227,29 @@ unfolding total
 total-same zero c = omega arith
 total-same (suc b) c = omega (arith, total-same b c)
 
+-- the first a, then the others
+pub total-split : (a b : ℕ) (f : ℕ → ℕ) → total (a + b) f ≡ total a f + total b (λ i. f (a + i))
+unfolding total
+total-split a zero f = ap (λ (z : ℕ). total z f) (add-zero a) ∙ sym (add-zero (total a f))
+total-split a (suc b) f = ap (λ (z : ℕ). total z f) next ∙ omega (arith, total-split a b f)
+  where
+    next : a + suc b ≡ suc (a + b)
+    next = omega arith
+
+-- where c values from a on are others, the sums differ by these
+pub total-exchanged : (a c b : ℕ) (f g : ℕ → ℕ) → ((i : ℕ) → i < a → f i ≡ g i) → ((i : ℕ) → i < b → f (a + c + i) ≡ g (a + c + i))
+    → total (a + c + b) f + total c (λ i. g (a + i)) ≡ total (a + c + b) g + total c (λ i. f (a + i))
+total-exchanged a c b f g before after =
+    omega (
+      arith,
+      total-split (a + c) b f,
+      total-split a c f,
+      total-split (a + c) b g,
+      total-split a c g,
+      total-cong a f g before,
+      total-cong b (λ i. f (a + c + i)) (λ i. g (a + c + i)) after,
+    )
+
 -- smaller values
 pub total-le : (b : ℕ) (f g : ℕ → ℕ) → ((k : ℕ) → k < b → f k ≤ g k) → total b f ≤ total b g
 unfolding total
@@ -280,6 +303,11 @@ module _ {A : Type 0} where
       (λ k less. List·getD-append (tabulate b f) (f b ∷ []) d k (omega (arith, length-tabulate b f)) ∙ getD-tabulate b f k d less)
       (getD-at (tabulate b f) (f b) [] d b (length-tabulate b f))
       k l
+
+  pub tabulate-first : (b : ℕ) (f : ℕ → A) → tabulate (suc b) f ≡ f zero ∷ tabulate b (λ k. f (suc k))
+  unfolding tabulate
+  tabulate-first zero f = refl
+  tabulate-first (suc b) f = ap (λ (l : List A). l ++ (f (suc b) ∷ [])) (tabulate-first b f)
 
   -- one value changed
   pub tabulate-set : (b : ℕ) (f g : ℕ → A) (k : ℕ) {v : A} → k < b → f k ≡ v → ((i : ℕ) → i ≢ k → f i ≡ g i)

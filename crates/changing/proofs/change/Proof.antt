@@ -1,7 +1,8 @@
 -- `change` reads, asks 17 and 14, and writes only then.
 use borrow.Author.Needs.{needs}
 use Rattle.answers.proofs.Calling.{was-read}
-use Rattle.changing.proofs.Calling.{change-refused, unread, both-asked, passed, change-made}
+use Rattle.changed_sheets.proofs.Stage.{change-refused, change-made}
+use Rattle.changing.proofs.Calling.{unread, both-asked, passed}
 use Rattle.changing.proofs.change.Statement.{statement}
 use Rattle.changing.proofs.change.Tie as tie
 
