@@ -7,8 +7,8 @@
  * sheet, seal one, say of each line whether its differential can happen and
  * what it costs, run the program on two starting values, write the trail as
  * clauses for a SAT solver, write clauses and reports as text, join the trails
- * of two sheets, and change one of the expected differences or try the change
- * first.
+ * of two sheets, change one of the expected differences or try the change
+ * first, and make up to 64 such changes in one call.
  *
  * No call keeps anything between calls, or holds on to a pointer after it
  * returns.
@@ -21,8 +21,8 @@
  *   Success: number and place are 0, and count is what the call says below.
  *            What is written is written from the start of the lent buffer;
  *            whatever lies past it in the buffer stays as it was.  Into the
- *            sheet itself write only tablegull_seal and tablegull_change, and
- *            only the bytes that they name below.
+ *            sheet itself write only tablegull_seal, tablegull_change and
+ *            tablegull_change_all, and only the bytes that they name below.
  *   Refusal: number and place say which question had the answer no, count is
  *            0, and no byte of any lent buffer has changed.
  *
@@ -32,12 +32,14 @@
  * Questions 1 to 16 are asked by every call in the order of their numbers, 9 to
  * 15 together for one line after the other.  tablegull_seal leaves out 2, and
  * asks 23 of each line directly after 11; no other call asks 23.  Questions 17
- * to 22 are asked after them, by the calls that take what they are about, in the
- * order that the call says below: 17 by the calls that take a line, and by the
- * two for texts, which take a part.  tablegull_change and tablegull_trial take a
- * difference for a line, and ask 14 of it directly after 17.  The first question
- * whose answer is no is the refusal.  Blocks, lines and parts are numbered from
- * 0, block 0 being the header.
+ * to 22, 24 and 25 are asked after them, by the calls that take what they are
+ * about, in the order that the call says below: 17 by the calls that take a
+ * line, and by the two for texts, which take a part.  tablegull_change and
+ * tablegull_trial take a difference for a line, and ask 14 of it directly after
+ * 17.  tablegull_change_all takes a list of lines and differences: it asks 24
+ * and 25, and then 17 and 14 of each pair, where a no is a reply and refuses
+ * that pair alone.  The first question whose answer is no is the refusal.
+ * Blocks, lines and parts are numbered from 0, block 0 being the header.
  *
  *   number  place  the question whose answer is no
  *   ------  -----  ------------------------------------------------------------
@@ -69,6 +71,8 @@
  *       22      0  Have the two sheets at most 248 lines together?
  *       23   line  In sealing, for kind 1, do the operands name different
  *                  words?
+ *       24      0  Has the list of changes at most 64 pairs?
+ *       25      0  Has the reply buffer a byte for each pair of the list?
  *
  *
  * Outside the proof
@@ -104,7 +108,7 @@ extern "C" {
  * The archive does not tell its version: take header and archive from the same
  * sources.
  */
-#define TABLEGULL_VERSION "0.8.0"
+#define TABLEGULL_VERSION "0.9.0"
 
 /* Lengths that are always enough. */
 #define TABLEGULL_MAX_SHEET 4608        /* bytes of a sheet                    */
@@ -114,6 +118,7 @@ extern "C" {
 #define TABLEGULL_MAX_LINE_CLAUSES 4944 /* numbers of tablegull_line_clauses   */
 #define TABLEGULL_MAX_CLAUSE_TEXT 34608 /* bytes of tablegull_clause_text      */
 #define TABLEGULL_MAX_REPORT_TEXT 64    /* bytes of tablegull_report_text      */
+#define TABLEGULL_MAX_CHANGES 64        /* replies of tablegull_change_all     */
 
 /* 24 bytes: place is at byte 8, count at byte 16. */
 struct tablegull_answer {
@@ -311,6 +316,34 @@ struct tablegull_answer tablegull_change(uint8_t *sheet, size_t len,
 struct tablegull_answer tablegull_trial(const uint8_t *sheet, size_t len,
                                         uint64_t line, uint64_t difference,
                                         uint8_t *out, size_t out_len);
+
+/*
+ * Makes up to 64 changes, one after the other.  pairs holds a line and the new
+ * difference for it, then the next line and its difference, and so on.
+ * pairs_len counts numbers, not pairs; a last number with no partner is no
+ * pair, and nothing is asked about it.
+ *
+ * Sheet and replies are those of tablegull_change called once for each pair, in
+ * order.  A reply is one byte: 0 for a pair that was applied, else the number
+ * by which tablegull_change would refuse it, 17 (line) or 14 (difference).  A
+ * pair that is refused is skipped, and those after it are applied all the same.
+ * The last pair applied to a line wins.  Into the sheet are written, for each
+ * pair applied, the bytes that tablegull_change writes.  No other byte of it
+ * changes, and tablegull_read accepts it afterwards.
+ *
+ * Asks 1 to 16, then 24 (pairs_len / 2 of 64 or less), and 25 last (replies_len
+ * of pairs_len / 2 or more; TABLEGULL_MAX_CHANGES is enough for any).  A call
+ * that is refused changes neither the sheet nor the replies.  That a pair is
+ * refused does not refuse the call; so a refusal by 14 is about the sheet.
+ * Replies are written from the start, one for each pair.  replies_len may be
+ * larger, and the rest of the buffer is kept.
+ * sheet, pairs and replies may not overlap; pairs is aligned for uint64_t.
+ * count: the pairs, pairs_len / 2 rounded down.
+ */
+struct tablegull_answer tablegull_change_all(uint8_t *sheet, size_t len,
+                                             const uint64_t *pairs,
+                                             size_t pairs_len, uint8_t *replies,
+                                             size_t replies_len);
 
 #ifdef __cplusplus
 }

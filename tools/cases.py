@@ -9,6 +9,7 @@ goes into it.
 from pathlib import Path
 
 import change_cases
+import change_list_cases
 import clause_cases
 import join_cases
 import program_cases
@@ -17,9 +18,9 @@ import sheet_cases
 
 CRATE = Path(__file__).resolve().parent.parent / "crates" / "cases"
 # The program's room for its cases.
-MOST_CASES = 12 * 2**15
+MOST_CASES = 13 * 2**15
 SUBJECTS = {"sheets": sheet_cases, "reports": report_cases, "clauses": clause_cases, "joins": join_cases,
-            "differences": change_cases, "texts": program_cases}
+            "differences": change_cases, "lists": change_list_cases, "texts": program_cases}
 
 if __name__ == "__main__":
     stdin, stdout = "", ""

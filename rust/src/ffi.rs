@@ -118,4 +118,15 @@ extern "C" {
         out: *mut u8,
         out_len: usize,
     ) -> Answer;
+
+    /// Makes the changes of a list, line and difference in turn, and writes a reply for
+    /// each pair; count: the pairs.
+    pub fn tablegull_change_all(
+        sheet: *mut u8,
+        len: usize,
+        pairs: *const u64,
+        pairs_len: usize,
+        replies: *mut u8,
+        replies_len: usize,
+    ) -> Answer;
 }

@@ -21,12 +21,14 @@
 //! | `join` | joins the trails of two sheets | the joined sheet's bytes |
 //! | `change` | replaces the difference that a line states | nothing |
 //! | `trial` | all lines' reports as a change would make them | a [`LineReport`] for each line |
+//! | `change_all` | makes up to 64 changes in order | for each what `change` would answer |
 //!
 //! A call that is refused returns a [`Refusal`], and leaves every byte of a
 //! sheet as it was. The module `slices` has the same calls, for texts those for a
 //! part, over buffers that the caller holds: they write from the start of the lent
 //! buffer and leave the rest, and on a refusal all of it. Into a sheet itself write
-//! only `seal`, its checks, and `change`, a line's difference and its block's check.
+//! only `seal`, its checks, and `change` and `change_all`, a line's difference and its
+//! block's check for each change.
 //!
 //! A word XORed with itself is refused by `seal` alone. Sheets that have been
 //! sealed with such a line can still be read and used.
@@ -80,10 +82,13 @@ pub const MAX_CLAUSE_TEXT: usize = 34608;
 /// Bytes that are enough for any part of a report's text.
 pub const MAX_REPORT_TEXT: usize = 64;
 
+/// Pairs of the longest list of changes.
+pub const MAX_CHANGES: usize = 64;
+
 /// The first question about a call's input whose answer is no.
 #[derive(Clone, Copy, Debug, PartialEq, Eq, Hash)]
 pub struct Refusal {
-    /// The question's number, 1 to 23.
+    /// The question's number, 1 to 25.
     pub number: u32,
     /// The block or line at which the answer is no; 0 where none is named.
     pub place: u64,
@@ -122,6 +127,8 @@ impl Refusal {
             }
             22 => "Have the two sheets at most 248 lines together?",
             23 => "In sealing, for kind 1, do the operands name different words?",
+            24 => "Has the list of changes at most 64 pairs?",
+            25 => "Has the reply buffer a byte for each pair of the list?",
             _ => "no question has this number",
         }
     }
@@ -135,8 +142,8 @@ impl fmt::Display for Refusal {
 
 impl std::error::Error for Refusal {}
 
-// In the calls below the buffer is long enough for the answer, so that 18 is
-// never the refusal.
+// In the calls below the buffer is long enough for the answer, so that 18 and 25
+// are never the refusal.
 
 /// Reads a sheet and answers its number of lines.
 #[cfg(has_archive)]
@@ -414,4 +421,58 @@ pub fn trial(sheet: &[u8], line: usize, difference: u64) -> Result<Vec<LineRepor
     let mut bytes = [0; MAX_LINES * LINE_REPORT];
     let count = slices::trial(sheet, line, difference, &mut bytes)?;
     Ok(reports_of_bytes(&bytes[..count]))
+}
+
+/// Makes the changes of a list, each a line and its new difference, in order. The sheet
+/// and the replies are those of [`change`] called once for each pair: a pair that it
+/// would refuse is skipped and answered by that refusal, and the last pair applied to a
+/// line wins.
+///
+/// The call itself is refused if reading refuses the sheet, and by 24 for more than
+/// [`MAX_CHANGES`] pairs: then no change is made.
+///
+/// ```
+/// use tablegull::builder::{Line, SheetBuilder};
+/// use tablegull::LineReport::{Certain, Impossible};
+///
+/// let mut sheet = SheetBuilder::new(4, &[1]);
+/// let turned = sheet.line(Line::rotate_left(0, 1, 4));
+/// sheet.line(Line::rotate_left(turned, 1, 1));
+/// let mut bytes = sheet.seal()?;
+/// assert_eq!(tablegull::reports(&bytes)?, [Impossible, Impossible]);
+///
+/// // 16 is not below 2^4, so line 1 keeps the 4 that it got before.
+/// let replies = tablegull::change_all(&mut bytes, &[(0, 2), (1, 4), (1, 16)])?;
+/// assert_eq!(replies[..2], [Ok(()), Ok(())]);
+/// let too_large = replies[2].unwrap_err();
+/// assert_eq!((too_large.number, too_large.place), (14, 1));
+/// assert_eq!(tablegull::reports(&bytes)?, [Certain, Certain]);
+/// # Ok::<(), tablegull::Refusal>(())
+/// ```
+#[cfg(has_archive)]
+pub fn change_all(
+    sheet: &mut [u8],
+    pairs: &[(usize, u64)],
+) -> Result<Vec<Result<(), Refusal>>, Refusal> {
+    let numbers: Vec<u64> = pairs
+        .iter()
+        .flat_map(|&(line, difference)| [line as u64, difference])
+        .collect();
+    let mut replies = [0; MAX_CHANGES];
+    let count = slices::change_all(sheet, &numbers, &mut replies)?;
+    let replies = pairs.iter().zip(&replies[..count]);
+    Ok(replies
+        .map(|(&(line, _), &reply)| reply_to_change(line, reply))
+        .collect())
+}
+
+/// What [`change`] answers where a list of changes has this reply.
+#[cfg(has_archive)]
+fn reply_to_change(line: usize, reply: u8) -> Result<(), Refusal> {
+    let refused = |number, place| Err(Refusal { number, place });
+    match reply {
+        0 => Ok(()),
+        14 => refused(14, line as u64),
+        number => refused(number.into(), 0),
+    }
 }

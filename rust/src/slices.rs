@@ -207,3 +207,26 @@ pub fn trial(sheet: &[u8], line: usize, difference: u64, out: &mut [u8]) -> Resu
         )
     })
 }
+
+/// Makes the changes of a list in order. `pairs` holds line, difference, line,
+/// difference, and so on; a last number with no partner is no pair. Writes a byte for
+/// each pair into `replies`: 0 where the change was made, else the number of the
+/// refusal that [`change`] would give it, 17 or 14; that pair is skipped. Answers the
+/// number of pairs.
+///
+/// More than [`MAX_CHANGES`](crate::MAX_CHANGES) pairs are refused by 24, and fewer
+/// replies than pairs by 25: then nothing is changed, and no reply written.
+pub fn change_all(sheet: &mut [u8], pairs: &[u64], replies: &mut [u8]) -> Result<usize, Refusal> {
+    // SAFETY: each pointer and length are one slice's, and `sheet` and `replies` are
+    // borrowed for writing.
+    outcome(unsafe {
+        ffi::tablegull_change_all(
+            sheet.as_mut_ptr(),
+            sheet.len(),
+            pairs.as_ptr(),
+            pairs.len(),
+            replies.as_mut_ptr(),
+            replies.len(),
+        )
+    })
+}

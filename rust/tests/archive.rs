@@ -22,6 +22,7 @@ mod compared {
     use std::fmt::Debug;
 
     use super::common::changing::random_change;
+    use super::common::changing_all::{assert_same, random_list, random_room_of_replies};
     use super::common::damage::damage_a_field;
     use super::common::lending::rewritten;
     use super::common::sealing::{random_sheet_to_seal, Met};
@@ -144,6 +145,19 @@ mod compared {
         );
     }
 
+    fn compare_change_all(random: &mut Random, sheet: &[u8], width: u32, lines: usize) {
+        let list = random_list(random, width, lines);
+        let room = random_room_of_replies(random, list.len() / 2);
+        let case = || format!("change_all, {list:?}, room {room}");
+        let theirs = ARCHIVE.changed_all(sheet, &list, room);
+        let ours = REFERENCE.changed_all(sheet, &list, room);
+        assert_same(&theirs, &ours, case);
+        if let Ok(changed) = theirs {
+            let read = (ARCHIVE.read)(&changed.sheet);
+            assert!(read.is_ok(), "{}: not readable", case());
+        }
+    }
+
     fn compare_line_calls(random: &mut Random, sheet: &[u8], line: usize, length: usize) {
         compare(
             random,
@@ -244,6 +258,7 @@ mod compared {
         for length in lengths(random, 16 * lines) {
             compare_report(random, &sheet, length);
             compare_change(random, &sheet, program.width, lines, length);
+            compare_change_all(random, &sheet, program.width, lines);
         }
         for length in 0..5 {
             compare_small_calls(random, &sheet, start, length);
@@ -281,7 +296,9 @@ mod compared {
         compare_texts(random, sheet, line, length);
         compare_report(random, sheet, length);
         let width = sheet.get(4).map_or(32, |&n| u32::from(n).clamp(2, 32));
-        compare_change(random, sheet, width, answer.unwrap_or(20), length);
+        let lines = answer.unwrap_or(20);
+        compare_change(random, sheet, width, lines, length);
+        compare_change_all(random, sheet, width, lines);
         compare_small_calls(random, sheet, &start, length.min(8));
         assert!(sheet == before, "a read-only sheet was written");
         answer

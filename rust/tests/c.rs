@@ -1,5 +1,5 @@
 //! The C header, as a C compiler reads it: every call is made through it, on the
-//! archive, and the README's two examples in C are compiled and run. The compiler
+//! archive, and the README's three examples in C are compiled and run. The compiler
 //! is `cc`, which links this package too, or the one that `CC` names.
 
 mod common;
@@ -97,6 +97,9 @@ static void said_words(struct tablegull_answer a, const uint64_t *words) {
 int main(void) {
     size_t len = taken("first", first), other = taken("second", second);
     const uint64_t start[2] = {1, 2}, names[2] = {1, 3};
+    const uint64_t pairs[7] = {2, 8, 1, UINT64_C(0x100000004), 3, 0, 0};
+    uint64_t many[130] = {0};
+    uint8_t replies[TABLEGULL_MAX_CHANGES] = {0};
     uint64_t words[3];
     struct tablegull_answer a;
     said(tablegull_read(first, len));
@@ -124,6 +127,13 @@ int main(void) {
     said(tablegull_change(first, len, UINT64_C(0x100000001), 4));
     said(tablegull_change(first, len, 1, UINT64_C(0x100000004)));
     said(tablegull_change(first, len, 1, 4));
+    printf("\n");
+    said_bytes(tablegull_report(first, len, bytes, TABLEGULL_MAX_REPORT));
+    said(tablegull_change_all(first, len, many, 130, replies, TABLEGULL_MAX_CHANGES));
+    said(tablegull_change_all(first, len, pairs, 7, replies, 2));
+    a = tablegull_change_all(first, len, pairs, 7, replies, 3);
+    said(a);
+    for (uint64_t i = 0; i < a.count; i++) printf(" %u", replies[i]);
     printf("\n");
     said_bytes(tablegull_report(first, len, bytes, TABLEGULL_MAX_REPORT));
     return 0;
@@ -197,6 +207,11 @@ int main(void) {
         );
         // The report of the changed sheet is what was tried.
         line(tried);
+        line("24 0 0:25 0 0:0 0 3: 0 14 17".into());
+        let mut changed = first.to_vec();
+        slices::change(&mut changed, 1, 4).unwrap();
+        slices::change(&mut changed, 2, 8).unwrap();
+        line(said(slices::report(&changed, &mut bytes), &bytes));
         let files = [("first", first), ("second", second)];
         assert_eq!(run("calls", CALLS, &files), (expected, Some(0)));
     }
@@ -231,7 +246,7 @@ int main(void) {
             one.split(':').next().unwrap()
         });
         assert_eq!(header, package);
-        assert_eq!(header.len(), 13);
+        assert_eq!(header.len(), 14);
     }
 
     /// The README's indented lines from one that begins so, up to a blank one.
@@ -259,5 +274,26 @@ int main(void) {
         assert_eq!(accepted, (clauses, Some(0)));
         let refused = run("refused", &program, &[("sheet", &example()[..1023])]);
         assert_eq!(refused, ("refused 1 0\n".to_string(), Some(1)));
+    }
+
+    /// The two changes that mend the printed trail, and a third that is refused.
+    #[test]
+    fn the_readmes_list_of_changes() {
+        let printed = include_bytes!("../../examples/lea7_printed.sheet");
+        let mended = include_bytes!("../../examples/lea7.sheet");
+        let list = of_readme("uint64_t pairs[] = ");
+        let program = format!(
+            "#include \"tablegull.h\"\n#include <stdio.h>\n#include <string.h>\n\
+             static uint8_t sheet[TABLEGULL_MAX_SHEET], other[TABLEGULL_MAX_SHEET];\n\
+             int main(void) {{\nFILE *read = fopen(\"sheet\", \"rb\"), *mended = fopen(\"mended\", \"rb\");\n\
+             size_t len = fread(sheet, 1, sizeof sheet, read);\n\
+             if (fread(other, 1, sizeof other, mended) != len) return 1;\n\
+             struct tablegull_answer a;\n{list}\
+             printf(\"%d %d %d %d\\n\", (int)a.count, replies[0], replies[1], replies[2]);\n\
+             return memcmp(sheet, other, len) != 0;\n}}\n"
+        );
+        let files = [("sheet", &printed[..]), ("mended", &mended[..])];
+        let changed = run("changes", &program, &files);
+        assert_eq!(changed, ("3 0 0 17\n".to_string(), Some(0)));
     }
 }

@@ -2,7 +2,8 @@
 //! and questions.
 
 use tablegull::{
-    Refusal, LINE_REPORT, MAX_CLAUSE_TEXT, MAX_LINES, MAX_LINE_CLAUSES, MAX_REPORT_TEXT, MAX_SHEET,
+    Refusal, LINE_REPORT, MAX_CHANGES, MAX_CLAUSE_TEXT, MAX_LINES, MAX_LINE_CLAUSES,
+    MAX_REPORT_TEXT, MAX_SHEET,
 };
 
 const HEADER: &str = include_str!("../../include/tablegull.h");
@@ -34,6 +35,7 @@ fn the_header_has_the_packages_lengths() {
         ("MAX_LINE_CLAUSES", MAX_LINE_CLAUSES),
         ("MAX_CLAUSE_TEXT", MAX_CLAUSE_TEXT),
         ("MAX_REPORT_TEXT", MAX_REPORT_TEXT),
+        ("MAX_CHANGES", MAX_CHANGES),
     ];
     assert_eq!(defined.collect::<Vec<(&str, usize)>>(), wanted);
 }
@@ -61,7 +63,7 @@ fn questions() -> Vec<(u32, &'static str, String)> {
 #[test]
 fn the_header_asks_what_the_package_asks() {
     let rows = questions();
-    assert!(rows.iter().map(|(number, ..)| *number).eq(1..=23));
+    assert!(rows.iter().map(|(number, ..)| *number).eq(1..=25));
     for (number, place, question) in rows {
         let wanted = match number {
             2 | 16 => "block",
@@ -71,7 +73,7 @@ fn the_header_asks_what_the_package_asks() {
         assert_eq!(place, wanted, "{number}");
         assert_eq!(question, Refusal { number, place: 0 }.question());
     }
-    for number in [0, 24] {
+    for number in [0, 26] {
         let none = Refusal { number, place: 0 };
         assert_eq!(none.question(), "no question has this number");
     }

@@ -167,6 +167,14 @@ fn each_question_has_its_number_and_place() {
             assert_eq!(changed, reading_then_17, "{name}, byte {at}");
             let tried = (calls.trial)(&bytes, 33, u64::MAX, &mut []);
             assert_eq!(tried, reading_then_17, "{name}, byte {at}");
+
+            // There are too many changes.
+            let reading_then_24 = reading(&[damage]).and(Err(Refusal {
+                number: 24,
+                place: 0,
+            }));
+            let changed = (calls.change_all)(&mut bytes, &[0; 130], &mut []);
+            assert_eq!(changed, reading_then_24, "{name}, byte {at}");
             assert_eq!(bytes, before, "{name}, byte {at}");
         }
     }
@@ -290,6 +298,15 @@ fn questions_about_a_call_come_after_the_sheet() {
         assert_eq!(trial(&good, 32, 1 << 20, &mut []), refused(14, 32));
         assert_eq!(trial(&good, 32, 3, &mut [0; 33 * 16 - 1]), refused(18, 0));
         assert_eq!(trial(&good, 32, 3, &mut [0; 33 * 16]), Ok(33 * 16));
+
+        let change_all = |sheet: &[u8], numbers: usize, room: usize| {
+            (calls.change_all)(&mut sheet.to_vec(), &vec![0; numbers], &mut vec![0; room])
+        };
+        assert_eq!(change_all(&bad, 130, 0), refused(9, 32));
+        assert_eq!(change_all(&good, 130, 0), refused(24, 0));
+        assert_eq!(change_all(&good, 130, 65), refused(24, 0));
+        assert_eq!(change_all(&good, 129, 63), refused(25, 0));
+        assert_eq!(change_all(&good, 129, 64), Ok(64));
 
         for text in [calls.clause_text_part, calls.report_text_part] {
             assert_eq!(text(&bad, 34, &mut []), refused(9, 32));

@@ -230,6 +230,89 @@ fn changes_are_refused() {
     }
 }
 
+#[test]
+fn a_list_of_changes_is_answered_as_each_would_be() {
+    let sheet = sheet();
+    // Line 1 can happen with 2, and line 2 cannot with 1; there is no line 4.
+    let pairs = [
+        (1, 16),
+        (1, 3),
+        (4, 1),
+        (2, 1),
+        (usize::MAX, 16),
+        (1, 2),
+        (3, (1 << 32) + 4),
+        (1, u64::MAX),
+        (0, 1 << 32),
+    ];
+    for count in 0..=pairs.len() {
+        let pairs = &pairs[..count];
+        let (mut changed, mut by_slices, mut single) =
+            (sheet.clone(), sheet.clone(), sheet.clone());
+        let replies = tablegull::change_all(&mut changed, pairs).expect("a list that fits");
+        let one_by_one: Vec<Result<(), Refusal>> = pairs
+            .iter()
+            .map(|&(line, difference)| tablegull::change(&mut single, line, difference))
+            .collect();
+        assert_eq!(replies, one_by_one);
+        assert!(changed == single);
+
+        let list = pairs.iter().flat_map(|&(line, to)| [line as u64, to]);
+        let list: Vec<u64> = list.collect();
+        let mut lent = [7; 10];
+        let answer = slices::change_all(&mut by_slices, &list, &mut lent);
+        assert_eq!(answer, Ok(count));
+        assert!(changed == by_slices);
+        let numbers = replies.iter().map(|reply| match reply {
+            Ok(()) => 0,
+            Err(refusal) => refusal.number as u8,
+        });
+        assert!(numbers.eq(lent[..count].iter().copied()));
+        assert!(lent[count..].iter().all(|&reply| reply == 7));
+    }
+    let mut changed = sheet;
+    let replies = tablegull::change_all(&mut changed, &pairs).expect("a list that fits");
+    let refused = |number, place| Err(Refusal { number, place });
+    let expected = [
+        refused(14, 1),
+        Ok(()),
+        refused(17, 0),
+        Ok(()),
+        refused(17, 0),
+        Ok(()),
+        refused(14, 3),
+        refused(14, 1),
+        refused(14, 0),
+    ];
+    assert_eq!(replies, expected);
+    let reports = tablegull::reports(&changed).expect("an accepted sheet");
+    assert_eq!(reports[1..3], [LineReport::Certain, LineReport::Impossible]);
+}
+
+#[test]
+fn lists_of_changes_are_refused() {
+    let mut sheet = sheet();
+    let refused = |number, place| Err(Refusal { number, place });
+    let most = tablegull::MAX_CHANGES;
+    let before = sheet.clone();
+    for count in [most + 1, most + 2, 2 * most, 1000] {
+        let answer = tablegull::change_all(&mut sheet, &vec![(1, 2); count]);
+        assert_eq!(answer, refused(24, 0), "{count}");
+        assert!(sheet == before);
+    }
+    for count in [0, 1, most - 1, most] {
+        let answer = tablegull::change_all(&mut sheet, &vec![(1, 2); count]);
+        assert_eq!(answer, Ok(vec![Ok(()); count]));
+    }
+    sheet[1023] ^= 1;
+    let before = sheet.clone();
+    for count in [0, 1, most + 1] {
+        let answer = tablegull::change_all(&mut sheet, &vec![(1, 2); count]);
+        assert_eq!(answer, refused(2, 1), "{count}");
+        assert!(sheet == before);
+    }
+}
+
 /// A sheet of 248 lines whose reports have the largest numbers, and the one with
 /// the longest lists and texts.
 const LARGEST: [&[u8]; 2] = [

@@ -1,10 +1,12 @@
-// A change and a trial as C takes them: a struct for the answer.
+// A change, a list of changes and a trial as C takes them: a struct for the answer.
 ghost use mathlib.Core.Path.{_≡_};
 ghost use Rattle.answers.specs.Answers.{answerOf};
+ghost use Rattle.change_lists.specs.ChangesCall.{changesCall, changesSheet};
 ghost use Rattle.changed_sheets.specs.ChangeCall.{changeCall};
 ghost use Rattle.tried_changes.specs.TrialCall.{trialCall};
 use answers::Answer;
 use changing::ChangeAnswer;
+use changing_all::ChangesAnswer;
 use report::BufferAnswer;
 
 // Changes one stated difference. Counts nothing.
@@ -16,6 +18,19 @@ pub fn change(sheet: &mut [u8], line: u64, difference: u64) -> Answer
     match answer {
         ChangeAnswer::Changed => Answer::counted(0),
         ChangeAnswer::Refused(refusal) => Answer::refusing(refusal),
+    }
+}
+
+// Makes a list of changes. Counts the pairs.
+pub fn change_all(sheet: &mut [u8], pairs: &[u64], replies: &mut [u8]) -> Answer
+    ensures { λ r. ⌜ (r ≡ answerOf (changesCall (now (sheet .entry)) (now (pairs .entry)) (now (replies .entry)) .answer))
+        × (now (replies .exit) ≡ changesCall (now (sheet .entry)) (now (pairs .entry)) (now (replies .entry)) .buffer)
+        × (now (sheet .exit) ≡ changesSheet (now (sheet .entry)) (now (pairs .entry)) (now (replies .entry))) ⌝ }
+{
+    let answer = changing_all::change_all(sheet, pairs, replies);
+    match answer {
+        ChangesAnswer::Replied(count) => Answer::counted(count),
+        ChangesAnswer::Refused(refusal) => Answer::refusing(refusal),
     }
 }
 

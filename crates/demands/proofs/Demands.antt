@@ -16,6 +16,7 @@ use Rattle.answers.specs.Calls.{writing}
 use Rattle.sealed_sheets.proofs.WrittenChecks.{sealed-no}
 use Rattle.sealed_sheets.proofs.Demand2.{sealing-is-right}
 use Rattle.changed_sheets.proofs.Answered.{change-answers-in-order}
+use Rattle.change_lists.proofs.Answered.{changes-answer-in-order}
 use Rattle.trail_reports.proofs.Demand2.{sheet-reports-are-right}
 use Rattle.clauses.proofs.Demand3.{every-sheet-pairs}
 use Rattle.demands.specs.Demands.{FirstNo, Demands}
@@ -76,6 +77,7 @@ demands = record {
     calls = calls-answer;
     refused-unsealed = λ s number place e. sealed-no s (no-verdict (questions Seal s) (headerOf s) e);
     refused-unchanged = λ s k d number place e. change-answers-in-order s k d .kept number place e;
+    refused-unapplied = λ s numbers out number place e. changes-answer-in-order s numbers out .kept number place e .unapplied;
   };
   second = record { reports = sheet-reports-are-right; sealing = sealing-is-right };
   third = every-sheet-pairs;

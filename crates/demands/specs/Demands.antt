@@ -14,6 +14,7 @@ use Rattle.answers.specs.Calls.{writing}
 use Rattle.sealed_sheets.specs.Sealing.{sealed}
 use Rattle.sealed_sheets.specs.Demands.{SealingIsRight}
 use Rattle.changed_sheets.specs.ChangeCall.{changeCall}
+use Rattle.change_lists.specs.ChangesCall.{changesCall, changesSheet}
 use Rattle.trail_reports.specs.Demand2.{SheetReportsAreRight}
 use Rattle.clauses.specs.Demand3.{EverySheetPairs}
 use Rattle.demands.specs.Calls.{CallsAnswer}
@@ -40,6 +41,8 @@ pub record Demand1 : Type 1 where
   pub calls : CallsAnswer
   pub refused-unsealed : (s : List ℕ) (number place : ℕ) → verdict (questions Seal s) (headerOf s) ≡ refused number place → sealed s ≡ s
   pub refused-unchanged : (s : List ℕ) (k d number place : ℕ) → changeCall s k d .answer ≡ refused number place → changeCall s k d .buffer ≡ s
+  pub refused-unapplied : (s numbers out : List ℕ) (number place : ℕ) → changesCall s numbers out .answer ≡ refused number place
+      → changesSheet s numbers out ≡ s
 
 -- Demand 2. Each line's report is the XOR differential of source document 000: impossible exactly when no operand values fit, else
 -- with the exact number of fitting words or pairs and the weight that bounds it. A sheet that sealing accepts becomes readable, only

@@ -16,9 +16,11 @@ ghost use Rattle.clause_file.specs.Parts.{clauseTextCall};
 ghost use Rattle.report_file.specs.Parts.{reportTextCall};
 ghost use Rattle.joined_sheets.specs.JoinCall.{joinCall};
 ghost use Rattle.changed_sheets.specs.ChangeCall.{changeCall};
+ghost use Rattle.change_lists.specs.ChangesCall.{changesCall, changesSheet};
 ghost use Rattle.tried_changes.specs.TrialCall.{trialCall};
 use answers::Answer;
 use changing_c::change;
+use changing_c::change_all;
 use changing_c::trial;
 use clauses_c::clause_counts;
 use clauses_c::line_clauses;
@@ -142,6 +144,20 @@ pub extern "C" fn tablegull_change(sheet: &mut [u8], line: u64, difference: u64)
         × (now (sheet .exit) ≡ changeCall (now (sheet .entry)) line difference .buffer) ⌝ }
 {
     change(sheet, line, difference)
+}
+
+// Makes the change of each pair of line and difference, in order, and writes a reply for each. Counts the pairs.
+#[no_mangle]
+pub extern "C" fn tablegull_change_all(
+    sheet: &mut [u8],
+    pairs: &[u64],
+    replies: &mut [u8],
+) -> Answer
+    ensures { λ r. ⌜ (r ≡ answerOf (changesCall (now (sheet .entry)) (now (pairs .entry)) (now (replies .entry)) .answer))
+        × (now (replies .exit) ≡ changesCall (now (sheet .entry)) (now (pairs .entry)) (now (replies .entry)) .buffer)
+        × (now (sheet .exit) ≡ changesSheet (now (sheet .entry)) (now (pairs .entry)) (now (replies .entry))) ⌝ }
+{
+    change_all(sheet, pairs, replies)
 }
 
 // Writes the report buffer that the sheet would have with one stated difference replaced. Counts bytes.

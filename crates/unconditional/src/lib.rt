@@ -2,6 +2,7 @@
 // that required something would not be proved here. Nothing uses these functions.
 use answers::Refusal;
 use tablegull::tablegull_change;
+use tablegull::tablegull_change_all;
 use tablegull::tablegull_clause_counts;
 use tablegull::tablegull_clause_text;
 use tablegull::tablegull_join;
@@ -46,6 +47,11 @@ pub fn in_rattle_changed(sheet: &mut [u8], line: usize, difference: u64, out: &m
     changing::change(sheet, line, difference);
 }
 
+// The one on a list of them.
+pub fn in_rattle_listed(sheet: &mut [u8], pairs: &[u64], replies: &mut [u8]) {
+    changing_all::change_all(sheet, pairs, replies);
+}
+
 // The exported calls on a sheet's bytes.
 pub fn on_bytes(sheet: &mut [u8], number: u64, out: &mut [u8]) {
     tablegull_read(sheet);
@@ -77,4 +83,9 @@ pub fn on_two_sheets(first: &[u8], second: &[u8], names: &[u64], out: &mut [u8])
 pub fn on_a_difference(sheet: &mut [u8], line: u64, difference: u64, out: &mut [u8]) {
     tablegull_trial(sheet, line, difference, out);
     tablegull_change(sheet, line, difference);
+}
+
+// The one on a list of them.
+pub fn on_pairs(sheet: &mut [u8], pairs: &[u64], replies: &mut [u8]) {
+    tablegull_change_all(sheet, pairs, replies);
 }

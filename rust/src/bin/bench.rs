@@ -14,8 +14,9 @@
 //! writer of text, as the archive's do in the rows by lists.
 //!
 //! Below stand the times of totals and of trials measured by the report of the
-//! same sheet, medians over the rounds again, and how long the archive may take at
-//! most.
+//! same sheet, and of lists of 64 changes by the reading of it, medians over the
+//! rounds again, and how long the archive may take at most. Beside the lists stand
+//! the times of as many single changes.
 
 use std::fs::{File, OpenOptions};
 use std::hint::black_box;
@@ -26,7 +27,8 @@ use tablegull::builder::{Line, SheetBuilder};
 use tablegull::reference::{self, LineReport, Sheet};
 use tablegull::text::TextWriter;
 use tablegull::{
-    Refusal, LINE_REPORT, MAX_CLAUSE_TEXT, MAX_LINES, MAX_LINE_CLAUSES, MAX_REPORT_TEXT, MAX_SHEET,
+    Refusal, LINE_REPORT, MAX_CHANGES, MAX_CLAUSE_TEXT, MAX_LINES, MAX_LINE_CLAUSES,
+    MAX_REPORT_TEXT, MAX_SHEET,
 };
 
 /// Rounds of single calls. Whole texts have one round in so many of these.
@@ -38,6 +40,7 @@ const TIME_OF_ONE_MEASURE: Duration = Duration::from_micros(400);
 
 fn main() {
     let mixed = sheet_of(&[1, 2, 3, 4, 5, 6, 7, 8, 9], MAX_LINES);
+    let short = sheet_of(&[1, 2, 3, 4, 5, 6, 7, 8, 9], MAX_CHANGES);
     let halves = [
         sheet_of(&[1, 2, 3, 4, 5, 6, 7, 8, 9], MAX_LINES / 2),
         sheet_of(&[9, 8, 7, 6, 5, 4, 3, 2, 1], MAX_LINES / 2),
@@ -58,8 +61,13 @@ fn main() {
     let middle = MAX_LINES / 2;
     let mut cases = [
         Case::new("read, all kinds mixed", read(&mixed)),
+        Case::new("read, mixed, 64 lines", read(&short)),
         Case::new("seal, all kinds mixed", seal(&mixed)),
         Case::new("change, mixed", change(&mixed, middle)),
+        Case::new("change_all, all kinds mixed", change_all(&mixed)),
+        Case::new("64 x change, all kinds mixed", single_changes(&mixed)),
+        Case::new("change_all, mixed, 64 lines", change_all(&short)),
+        Case::new("64 x change, mixed, 64 lines", single_changes(&short)),
         Case::new("one report, mixed", line_report(&mixed)),
         Case::new("report, all kinds mixed", report(&mixed)),
         Case::new("trial, all kinds mixed", trial(&mixed, middle)),
@@ -115,7 +123,7 @@ fn main() {
     }
     println!();
     print_row("totals / report", "archive", "reference", "at most", "");
-    print_bound(&cases, "totals", "all kinds mixed", 1.5, ratio);
+    print_bound(&cases, "totals", "report", "all kinds mixed", 1.5, ratio);
     println!();
     let if_5_us = "totals if the report took 5 us";
     print_row(if_5_us, "archive", "reference", "at most", "");
@@ -124,7 +132,9 @@ fn main() {
         "kind 5, same operands",
         "kind 5, few operands",
     ] {
-        print_bound(&cases, "totals", sheet, 8.0, |reports| time(5e3 * reports));
+        print_bound(&cases, "totals", "report", sheet, 8.0, |reports| {
+            time(5e3 * reports)
+        });
     }
     println!();
     print_row("trial / report", "archive", "reference", "at most", "");
@@ -136,26 +146,52 @@ fn main() {
         "all name line 0's word",
         "one line",
     ] {
-        print_bound(&cases, "trial", sheet, 1.2, ratio);
+        print_bound(&cases, "trial", "report", sheet, 1.2, ratio);
+    }
+    println!();
+    let lists = ["all kinds mixed", "mixed, 64 lines"];
+    print_row("change_all / read", "archive", "reference", "at most", "");
+    for sheet in lists {
+        print_bound(&cases, "change_all", "read", sheet, 2.0, ratio);
+    }
+    println!();
+    print_row("64 calls of change", "archive", "reference", "", "");
+    for sheet in lists {
+        let single = case(&cases, "64 x change", sheet);
+        print_row(
+            sheet,
+            &shown(median(&single.archive.times), time),
+            &shown(median(&single.reference.times), time),
+            "",
+            "",
+        );
     }
 }
 
-/// Prints how long a call on a sheet takes, the sheet's report being the unit, and
+/// Prints how long a call on a sheet takes, another call on it being the unit, and
 /// how long the archive may take at most.
-fn print_bound(cases: &[Case], call: &str, sheet: &str, most: f64, text: fn(f64) -> String) {
-    let case = |call: &str| {
-        let name = format!("{call}, {sheet}");
-        let mut cases = cases.iter();
-        cases.find(|case| case.name == name).expect("a case")
-    };
-    let (call, report) = (case(call), case("report"));
+fn print_bound(
+    cases: &[Case],
+    call: &str,
+    unit: &str,
+    sheet: &str,
+    most: f64,
+    text: fn(f64) -> String,
+) {
+    let (call, unit) = (case(cases, call, sheet), case(cases, unit, sheet));
     print_row(
         sheet,
-        &shown(median_ratio(&call.archive, &report.archive), text),
-        &shown(median_ratio(&call.reference, &report.reference), text),
+        &shown(median_ratio(&call.archive, &unit.archive), text),
+        &shown(median_ratio(&call.reference, &unit.reference), text),
         &text(most),
         "",
     );
+}
+
+fn case<'a, 'b>(cases: &'b [Case<'a>], call: &str, sheet: &str) -> &'b Case<'a> {
+    let name = format!("{call}, {sheet}");
+    let mut cases = cases.iter();
+    cases.find(|case| case.name == name).expect("a case")
 }
 
 type Outcome = Result<usize, Refusal>;
@@ -181,6 +217,7 @@ struct Calls {
     join: Join,
     change: fn(&mut [u8], usize, u64) -> Outcome,
     trial: fn(&[u8], usize, u64, &mut [u8]) -> Outcome,
+    change_all: fn(&mut [u8], &[u64], &mut [u8]) -> Outcome,
 }
 
 const REFERENCE: Calls = Calls {
@@ -197,6 +234,7 @@ const REFERENCE: Calls = Calls {
     join: reference::join,
     change: reference::change,
     trial: reference::trial,
+    change_all: reference::change_all,
 };
 
 #[cfg(has_archive)]
@@ -214,6 +252,7 @@ const ARCHIVE: Option<Calls> = Some(Calls {
     join: tablegull::slices::join,
     change: tablegull::slices::change,
     trial: tablegull::slices::trial,
+    change_all: tablegull::slices::change_all,
 });
 
 #[cfg(not(has_archive))]
@@ -245,6 +284,42 @@ fn change(sheet: &[u8], line: usize) -> impl FnMut(Calls) {
             difference.into(),
         ))
         .expect("accepted");
+    }
+}
+
+/// As many lines as a list of changes may have, spread over a sheet.
+fn spread_lines(sheet: &[u8]) -> [usize; MAX_CHANGES] {
+    let lines = reference::read(sheet).expect("accepted");
+    std::array::from_fn(|pair| pair * lines / MAX_CHANGES)
+}
+
+/// So many lines' differences are changed to and fro, each time in one call.
+fn change_all(sheet: &[u8]) -> impl FnMut(Calls) {
+    let lines = spread_lines(sheet);
+    let list = |difference: u32| lines.map(|line| [line as u64, difference.into()]);
+    let lists = [list(OLD_DIFFERENCE), list(NEW_DIFFERENCE)];
+    let mut next = 0;
+    let mut sheet = sheet.to_vec();
+    let mut replies = [0; MAX_CHANGES];
+    move |calls| {
+        next = 1 - next;
+        let pairs = black_box(&lists[next]).as_flattened();
+        (calls.change_all)(black_box(&mut sheet), pairs, &mut replies).expect("accepted");
+        assert_eq!(black_box(&replies), &[0; MAX_CHANGES]);
+    }
+}
+
+/// The same changes, each in a call of its own.
+fn single_changes(sheet: &[u8]) -> impl FnMut(Calls) {
+    let lines = spread_lines(sheet);
+    let mut sheet = sheet.to_vec();
+    let mut difference = OLD_DIFFERENCE;
+    move |calls| {
+        difference ^= OLD_DIFFERENCE ^ NEW_DIFFERENCE;
+        for line in lines {
+            let answer = (calls.change)(black_box(&mut sheet), line, difference.into());
+            black_box(answer).expect("accepted");
+        }
     }
 }
 

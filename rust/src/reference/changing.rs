@@ -1,15 +1,43 @@
-//! Changing the difference that a line states, and trying a change.
+//! Changing the difference that a line states, one or many, and trying a change.
 
 use super::sheet::{self, Sheet};
-use super::{ask_line, ask_room, refuse};
-use crate::{Refusal, LINE_REPORT};
+use super::{ask_room, refuse, refuse_unless};
+use crate::{Refusal, LINE_REPORT, MAX_CHANGES};
 
 /// Puts a difference in the place of the one that a line states.
 pub(super) fn change(bytes: &mut [u8], line: usize, difference: u64) -> Result<(), Refusal> {
     let sheet = Sheet::read(bytes)?;
-    let difference = ask_change(&sheet, line, difference)?;
+    let difference = Bounds::of(&sheet).ask(line, difference)?;
     sheet::write_difference(bytes, line, difference);
     Ok(())
+}
+
+/// Makes the changes of a list in order, and answers how many pairs it has.
+///
+/// The sheet is read just once: a changed sheet is again an accepted one, and has the
+/// bounds that it had.
+pub(super) fn change_all(
+    bytes: &mut [u8],
+    pairs: &[u64],
+    replies: &mut [u8],
+) -> Result<usize, Refusal> {
+    let bounds = Bounds::of(&Sheet::read(bytes)?);
+    // A last number with no partner is left out.
+    let pairs = pairs.chunks_exact(2);
+    let count = pairs.len();
+    refuse_unless(count <= MAX_CHANGES, 24, 0)?;
+    refuse_unless(count <= replies.len(), 25, 0)?;
+    for (pair, reply) in pairs.zip(replies) {
+        let (line, difference) = (pair[0] as usize, pair[1]);
+        *reply = match bounds.ask(line, difference) {
+            Ok(difference) => {
+                sheet::exchange_difference(bytes, line, difference);
+                0
+            }
+            Err(refusal) => refusal.number as u8,
+        };
+    }
+    Ok(count)
 }
 
 /// Writes the reports that the lines would have after a change, and answers how
@@ -24,7 +52,7 @@ pub(super) fn trial(
     out: &mut [u8],
 ) -> Result<usize, Refusal> {
     let sheet = Sheet::read(bytes)?;
-    let difference = ask_change(&sheet, line, difference)?;
+    let difference = Bounds::of(&sheet).ask(line, difference)?;
     let need = LINE_REPORT * sheet.line_count();
     let out = ask_room(out, need)?;
 
@@ -46,12 +74,28 @@ pub(super) fn trial(
     Ok(need)
 }
 
-/// Is the line number below L? 17. Is the difference below 2^n? 14, place: the
-/// line. Answers the difference, which fits 32 bits then.
-fn ask_change(sheet: &Sheet, line: usize, difference: u64) -> Result<u32, Refusal> {
-    ask_line(sheet, line)?;
-    match u32::try_from(difference) {
-        Ok(difference) if difference <= sheet.mask() => Ok(difference),
-        _ => refuse(14, line),
+/// What a change is asked by, which no change changes.
+#[derive(Clone, Copy)]
+struct Bounds {
+    lines: usize,
+    mask: u32,
+}
+
+impl Bounds {
+    fn of(sheet: &Sheet) -> Bounds {
+        Bounds {
+            lines: sheet.line_count(),
+            mask: sheet.mask(),
+        }
+    }
+
+    /// Is the line number below L? 17. Is the difference below 2^n? 14, place: the
+    /// line. Answers the difference, which fits 32 bits then.
+    fn ask(self, line: usize, difference: u64) -> Result<u32, Refusal> {
+        refuse_unless(line < self.lines, 17, 0)?;
+        match u32::try_from(difference) {
+            Ok(difference) if difference <= self.mask => Ok(difference),
+            _ => refuse(14, line),
+        }
     }
 }

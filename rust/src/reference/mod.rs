@@ -144,6 +144,13 @@ pub fn trial(sheet: &[u8], line: usize, difference: u64, out: &mut [u8]) -> Resu
     changing::trial(sheet, line, difference, out)
 }
 
+/// Makes the changes of a list in order: line, difference, line, difference, and so
+/// on. Writes a reply for each pair, 0 or the number of the refusal that [`change`]
+/// would give it; a refused pair is skipped. Answers the number of pairs.
+pub fn change_all(sheet: &mut [u8], pairs: &[u64], replies: &mut [u8]) -> Result<usize, Refusal> {
+    changing::change_all(sheet, pairs, replies)
+}
+
 /// Is the line number below L? 17
 fn ask_line(sheet: &Sheet, line: usize) -> Result<(), Refusal> {
     refuse_unless(line < sheet.line_count(), 17, 0)

@@ -5,6 +5,7 @@
 #![allow(dead_code)]
 
 pub mod changing;
+pub mod changing_all;
 pub mod damage;
 pub mod lending;
 pub mod pairs;
@@ -20,7 +21,7 @@ pub type Outcome = Result<usize, Refusal>;
 
 type Join = fn(&[u8], &[u8], &[u64], &mut [u8]) -> Outcome;
 
-/// The thirteen calls of one implementation.
+/// The fourteen calls of one implementation.
 #[derive(Clone, Copy)]
 pub struct Calls {
     pub name: &'static str,
@@ -37,6 +38,7 @@ pub struct Calls {
     pub join: Join,
     pub change: fn(&mut [u8], usize, u64) -> Outcome,
     pub trial: fn(&[u8], usize, u64, &mut [u8]) -> Outcome,
+    pub change_all: fn(&mut [u8], &[u64], &mut [u8]) -> Outcome,
 }
 
 pub const REFERENCE: Calls = Calls {
@@ -54,6 +56,7 @@ pub const REFERENCE: Calls = Calls {
     join: reference::join,
     change: reference::change,
     trial: reference::trial,
+    change_all: reference::change_all,
 };
 
 #[cfg(has_archive)]
@@ -72,6 +75,7 @@ pub const ARCHIVE: Calls = Calls {
     join: tablegull::slices::join,
     change: tablegull::slices::change,
     trial: tablegull::slices::trial,
+    change_all: tablegull::slices::change_all,
 };
 
 /// The reference, and the archive where it is there.

@@ -1,0 +1,5 @@
+pub mod Pairs
+pub mod Applied
+pub mod Theorem
+pub mod ChangesCall
+pub mod Answered
