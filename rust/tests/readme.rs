@@ -274,6 +274,18 @@ mod in_rust {
         Ok(())
     }
 
+    fn changing_all() -> Result<(), Any> {
+        // From here
+        let mut sheet = std::fs::read("examples/lea7_printed.sheet")?;
+        let pairs = [(138, 0x0004_0440), (139, 0x0000_8088), (140, 1)];
+        let replies = tablegull::change_all(&mut sheet, &pairs)?;
+        assert_eq!(replies[..2], [Ok(()), Ok(())]);
+        assert_eq!(replies[2].unwrap_err().number, 17);
+        assert_eq!(sheet, std::fs::read("examples/lea7.sheet")?);
+        // to here
+        Ok(())
+    }
+
     #[test]
     fn the_examples_run() {
         // The other tests here name no file by a path that starts where they are.
@@ -281,6 +293,7 @@ mod in_rust {
         building().unwrap();
         joining().unwrap();
         changing().unwrap();
+        changing_all().unwrap();
     }
 
     #[test]
@@ -288,7 +301,7 @@ mod in_rust {
         let readme = include_str!("../../README.md");
         let source = include_str!("readme.rs");
         let examples: Vec<&str> = source.split("        // From here\n").skip(1).collect();
-        assert_eq!(examples.len(), 3);
+        assert_eq!(examples.len(), 4);
         for example in examples {
             let (example, _) = example.split_once("        // to here\n").unwrap();
             let lines = example
