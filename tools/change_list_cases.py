@@ -1,7 +1,7 @@
 """The cases of a list of changes in one call (document 02, W-207) that crates/change_list_cases runs, and the answers that it has to
 give. Both come from this file and from oracle/trail.py, an independent reading of documents 01 and 02, alone.
 
-A case is a line `NAME: SHEET; LENGTH COUNT NUMBER NUMBER ..`: a sheet, given sealed as `LENGTH OFFSET=VALUE ..`, the length of a
+A case is a line `NAME: SHEET; ROOM COUNT NUMBER NUMBER ..`: a sheet, given sealed as `LENGTH OFFSET=VALUE ..`, the length of a
 reply buffer, most often one byte short of the need, and a list of COUNT numbers, line, difference, line, difference and so on; the
 numbers that the line does not have are 0. It is answered by what the call answers for a buffer of this length, one that is a byte
 longer, and one that is six bytes longer, each time on the sheet as it is given: the answer with the replies; a checksum of what has

@@ -1,9 +1,9 @@
 // Cases of a list of changes in one call, run on `changing_all::change_all` (document 02, W-207).
 //
-// A case is a line `NAME: SHEET; LENGTH COUNT NUMBER NUMBER ..`. The sheet is given as `LENGTH OFFSET=VALUE ..`: LENGTH bytes, all
-// 0 but those listed. The list has COUNT numbers; those that the line does not have are 0. It is applied with reply buffers of about
-// LENGTH bytes, each time to the sheet as it is given, and held against a copy that is changed once for each pair. Where a second
-// list follows, `COUNT NUMBER ..`, the copy has the changes of that one.
+// A case is a line `NAME: SHEET; ROOM COUNT NUMBER NUMBER ..`. The sheet is given as `LENGTH OFFSET=VALUE ..`: LENGTH bytes, all 0
+// but those listed. The list has COUNT numbers; those that the line does not have are 0. It is applied with reply buffers of ROOM,
+// ROOM + 1 and ROOM + 6 bytes, each time to the sheet as it is given, and held against a copy that is changed once for each pair.
+// Where a second list follows, `COUNT NUMBER ..`, the copy has the changes of that one.
 mod replies;
 
 ghost use Prim.Native.Nat.{_≤_};

@@ -30,7 +30,8 @@ pub record FirstNo (qs : List Question) (number place : ℕ) : Type 0 where
 -- that number and place. Every call returns, checks all its own input, and on a refusal writes to no lent buffer.
 -- Each call on a sheet answers the verdict of its list of questions, whatever it is lent: that is its contract, which requires nothing.
 -- Its list begins with those of the reading, or of sealing. What these are, in their order; what a verdict is; what stands in a lent
--- buffer afterwards where it is a refusal; and the calls that write, but for those for texts, joining, changing and trials, one by one:
+-- buffer afterwards where it is a refusal; and the calls that write, but for those for texts, joining, changes, lists of changes and
+-- trials, one by one:
 pub record Demand1 : Type 1 where
   pub reading-asks : ReadingAsks
   pub sealing-asks : SealingAsks
