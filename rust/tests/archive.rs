@@ -19,40 +19,15 @@ fn there_is_no_archive() {
 
 #[cfg(has_archive)]
 mod compared {
-    use std::fmt::Debug;
-
     use super::common::changing::random_change;
     use super::common::changing_all::{assert_same, random_list, random_room_of_replies};
     use super::common::damage::damage_a_field;
-    use super::common::lending::rewritten;
+    use super::common::lending::{rewritten, Element};
     use super::common::sealing::{random_sheet_to_seal, Met};
     use super::common::{
         disturb, random_lines, random_program, random_shape, write_checks, KeptOnFailure, Outcome,
         Program, Random, ARCHIVE, REFERENCE,
     };
-
-    /// What a buffer is filled with before a call.
-    trait Element: Copy + Debug + PartialEq {
-        fn of(bits: u64) -> Self;
-    }
-
-    impl Element for u8 {
-        fn of(bits: u64) -> u8 {
-            bits as u8
-        }
-    }
-
-    impl Element for u64 {
-        fn of(bits: u64) -> u64 {
-            bits
-        }
-    }
-
-    impl Element for i32 {
-        fn of(bits: u64) -> i32 {
-            bits as i32
-        }
-    }
 
     /// Lends both calls the same buffer, a part of a longer one, and compares
     /// what they answer and the whole of the longer one afterwards.

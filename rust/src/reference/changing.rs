@@ -1,7 +1,7 @@
 //! Changing the difference that a line states, one or many, and trying a change.
 
-use super::sheet::{self, Sheet};
-use super::{ask_room, refuse, refuse_unless};
+use super::sheet::{self, Record, Sheet};
+use super::{ask_room, refuse, refuse_unless, LineReport};
 use crate::{Refusal, LINE_REPORT, MAX_CHANGES};
 
 /// Puts a difference in the place of the one that a line states.
@@ -56,22 +56,41 @@ pub(super) fn trial(
     let need = LINE_REPORT * sheet.line_count();
     let out = ask_room(out, need)?;
 
-    let changed_word = sheet.input_count() + line;
-    let difference_of = |word: u16| {
-        if usize::from(word) == changed_word {
-            difference
-        } else {
-            sheet.difference(word)
-        }
+    let tried = Tried {
+        sheet,
+        line,
+        difference,
     };
     let reports = out.chunks_exact_mut(LINE_REPORT);
-    for ((number, mut record), report) in sheet.records().enumerate().zip(reports) {
-        if number == line {
-            record.difference = difference;
-        }
-        sheet.report_by(&record, difference_of).write(report);
+    for ((number, record), report) in sheet.records().enumerate().zip(reports) {
+        tried.report(number, record).write(report);
     }
     Ok(need)
+}
+
+/// A sheet that has been read, as it would be with another difference in a line.
+struct Tried<'a> {
+    sheet: Sheet<'a>,
+    line: usize,
+    difference: u32,
+}
+
+impl Tried<'_> {
+    /// The report that a line would have, by its record as it stands in the sheet.
+    fn report(&self, line: usize, mut record: Record) -> LineReport {
+        let changed_word = self.sheet.input_count() + self.line;
+        let difference_of = |word: u16| {
+            if usize::from(word) == changed_word {
+                self.difference
+            } else {
+                self.sheet.difference(word)
+            }
+        };
+        if line == self.line {
+            record.difference = self.difference;
+        }
+        self.sheet.report_by(&record, difference_of)
+    }
 }
 
 /// What a change is asked by, which no change changes.

@@ -1,19 +1,44 @@
 //! Calls that are lent a piece of a longer buffer, so that what they write beside
 //! it is seen.
 
+use std::fmt::Debug;
+
 use super::Outcome;
 use tablegull::Refusal;
 
+/// What a buffer is filled with before a call.
+pub trait Element: Copy + Debug + PartialEq {
+    fn of(bits: u64) -> Self;
+}
+
+impl Element for u8 {
+    fn of(bits: u64) -> u8 {
+        bits as u8
+    }
+}
+
+impl Element for u64 {
+    fn of(bits: u64) -> u64 {
+        bits
+    }
+}
+
+impl Element for i32 {
+    fn of(bits: u64) -> i32 {
+        bits as i32
+    }
+}
+
 /// Lends a call so much room, and answers what it has written there from the
-/// start. No other byte may have changed.
-pub fn written(
+/// start. Nothing else may have changed.
+pub fn written<T: Element>(
     case: impl Fn() -> String,
     room: usize,
-    call: impl FnOnce(&mut [u8]) -> Outcome,
-) -> Result<Vec<u8>, Refusal> {
+    call: impl FnOnce(&mut [T]) -> Outcome,
+) -> Result<Vec<T>, Refusal> {
     let guard = 1 + room % 8;
-    let before: Vec<u8> = (0..room + 2 * guard)
-        .map(|at| (at * 37 + room + 11) as u8)
+    let before: Vec<T> = (0..room + 2 * guard)
+        .map(|at| T::of((at * 37 + room + 11) as u64))
         .collect();
     let mut lent = before.clone();
     let answer = call(&mut lent[guard..guard + room]);
