@@ -8,7 +8,8 @@
  * what it costs, run the program on two starting values, write the trail as
  * clauses for a SAT solver, write clauses and reports as text, join the trails
  * of two sheets, change one of the expected differences or try the change
- * first, and make up to 64 such changes in one call.
+ * first, make up to 64 such changes in one call, tell which lines use a word,
+ * and change a difference together with a report that is kept beside the sheet.
  *
  * No call keeps anything between calls, or holds on to a pointer after it
  * returns.
@@ -21,8 +22,10 @@
  *   Success: number and place are 0, and count is what the call says below.
  *            What is written is written from the start of the lent buffer;
  *            whatever lies past it in the buffer stays as it was.  Into the
- *            sheet itself write only tablegull_seal, tablegull_change and
- *            tablegull_change_all, and only the bytes that they name below.
+ *            sheet itself write only tablegull_seal, tablegull_change,
+ *            tablegull_change_all and tablegull_change_indexed, and only the
+ *            bytes that they name below; the last one writes into the report
+ *            that it is lent as well.
  *   Refusal: number and place say which question had the answer no, count is
  *            0, and no byte of any lent buffer has changed.
  *
@@ -32,13 +35,14 @@
  * Questions 1 to 16 are asked by every call in the order of their numbers, 9 to
  * 15 together for one line after the other.  tablegull_seal leaves out 2, and
  * asks 23 of each line directly after 11; no other call asks 23.  Questions 17
- * to 22, 24 and 25 are asked after them, by the calls that take what they are
+ * to 22 and 24 to 26 are asked after them, by the calls that take what they are
  * about, in the order that the call says below: 17 by the calls that take a
- * line, and by the two for texts, which take a part.  tablegull_change and
- * tablegull_trial take a difference for a line, and ask 14 of it directly after
- * 17.  tablegull_change_all takes a list of lines and differences: it asks 24
- * and 25, and then 17 and 14 of each pair, where a no is a reply and refuses
- * that pair alone.  The first question whose answer is no is the refusal.
+ * line, and by the two for texts, which take a part.  tablegull_change,
+ * tablegull_trial and tablegull_change_indexed take a difference for a line, and
+ * ask 14 of it directly after 17; the last one asks 26 before these.
+ * tablegull_change_all takes a list of lines and differences: it asks 24 and
+ * 25, and then 17 and 14 of each pair, where a no is a reply and refuses that
+ * pair alone.  The first question whose answer is no is the refusal.
  * Blocks, lines and parts are numbered from 0, block 0 being the header.
  *
  *   number  place  the question whose answer is no
@@ -73,6 +77,8 @@
  *                  words?
  *       24      0  Has the list of changes at most 64 pairs?
  *       25      0  Has the reply buffer a byte for each pair of the list?
+ *       26      0  Are index and report the sheet's own, each at its exact
+ *                  length?
  *
  *
  * Outside the proof
@@ -85,8 +91,9 @@
  *     Two that are only read may be the same.
  *   - A null pointer may be lent only with length 0.
  *   - A buffer must be at least as long as its length says, and aligned for
- *     its type as C asks.  Lengths count elements: bytes for uint8_t, 64-bit
- *     words for uint64_t, 32-bit numbers for int32_t.
+ *     its type as C asks.  Lengths count elements: bytes for uint8_t, 16-bit
+ *     numbers for uint16_t, 64-bit words for uint64_t, 32-bit numbers for
+ *     int32_t.
  */
 
 #ifndef TABLEGULL_H
@@ -108,7 +115,7 @@ extern "C" {
  * The archive does not tell its version: take header and archive from the same
  * sources.
  */
-#define TABLEGULL_VERSION "0.9.0"
+#define TABLEGULL_VERSION "0.10.0"
 
 /* Lengths that are always enough. */
 #define TABLEGULL_MAX_SHEET 4608        /* bytes of a sheet                    */
@@ -119,6 +126,7 @@ extern "C" {
 #define TABLEGULL_MAX_CLAUSE_TEXT 34608 /* bytes of tablegull_clause_text      */
 #define TABLEGULL_MAX_REPORT_TEXT 64    /* bytes of tablegull_report_text      */
 #define TABLEGULL_MAX_CHANGES 64        /* replies of tablegull_change_all     */
+#define TABLEGULL_MAX_INDEX 752         /* numbers of tablegull_index          */
 
 /* 24 bytes: place is at byte 8, count at byte 16. */
 struct tablegull_answer {
@@ -344,6 +352,54 @@ struct tablegull_answer tablegull_change_all(uint8_t *sheet, size_t len,
                                              const uint64_t *pairs,
                                              size_t pairs_len, uint8_t *replies,
                                              size_t replies_len);
+
+/*
+ * Writes the sheet's index: which lines use each word.  Words are numbered as
+ * operands name them: the inputs are words 0 to m - 1, and line k makes word
+ * m + k.  For each word, rising from 0, a number says how many lines name it as
+ * a used operand; behind it stand these lines, ascending.  A line that names a
+ * word twice stands there once.  The first operand is used by every kind, the
+ * second by kinds 1, 5 and 9: the others have 0 in its field, which does not
+ * name word 0.
+ *
+ * The index knows no differences, so that changing one leaves it as it is.
+ *
+ * Asks 1 to 16, then 18 (out_len of this index's length or more;
+ * TABLEGULL_MAX_INDEX is enough for any).
+ * out is aligned for uint16_t, and may not overlap the sheet.
+ * count: the numbers written: m + L, and one more for each line of each word.
+ */
+struct tablegull_answer tablegull_index(const uint8_t *sheet, size_t len,
+                                        uint16_t *out, size_t out_len);
+
+/*
+ * Changes a difference as tablegull_change does, and renews the report that is
+ * kept beside the sheet: afterwards it is what tablegull_report writes of the
+ * changed sheet.  Into the sheet are written the bytes that tablegull_change
+ * writes; into the report the 16 bytes of the line, and of each line that the
+ * index has for its word.  All other lines' reports are the same as before.
+ * The index is only read, and is the changed sheet's own as well: so index and
+ * report can be lent to the next call as they are.
+ *
+ * index and report have to be the sheet's own, number by number and byte by
+ * byte: what tablegull_index and tablegull_report write of it, with index_len
+ * and report_len what these count.  Both are compared before anything is
+ * written.  A change by another call may leave a report that is no longer the
+ * sheet's own.
+ *
+ * Asks 1 to 16, then 26 (index, index_len, report and report_len), then 17
+ * (line) and 14 (difference; place: the line) as tablegull_change does.  A call
+ * that is refused changes neither the sheet nor the report.
+ * sheet, index and report may not overlap; index is aligned for uint16_t.
+ * count: 0.
+ */
+struct tablegull_answer tablegull_change_indexed(uint8_t *sheet, size_t len,
+                                                 const uint16_t *index,
+                                                 size_t index_len,
+                                                 uint8_t *report,
+                                                 size_t report_len,
+                                                 uint64_t line,
+                                                 uint64_t difference);
 
 #ifdef __cplusplus
 }

@@ -11,6 +11,7 @@ from pathlib import Path
 import change_cases
 import change_list_cases
 import clause_cases
+import index_cases
 import join_cases
 import program_cases
 import report_cases
@@ -18,9 +19,10 @@ import sheet_cases
 
 CRATE = Path(__file__).resolve().parent.parent / "crates" / "cases"
 # The program's room for its cases.
-MOST_CASES = 13 * 2**15
+MOST_CASES = 14 * 2**15
 SUBJECTS = {"sheets": sheet_cases, "reports": report_cases, "clauses": clause_cases, "joins": join_cases,
-            "differences": change_cases, "lists": change_list_cases, "texts": program_cases}
+            "differences": change_cases, "lists": change_list_cases, "indexes": index_cases,
+            "texts": program_cases}
 
 if __name__ == "__main__":
     stdin, stdout = "", ""

@@ -55,6 +55,29 @@ impl LineReport {
             _ => None,
         }
     }
+
+    /// The report's 16 bytes in the report buffer.
+    ///
+    /// A weight that has no room there becomes the largest that has: no line has it.
+    pub fn to_bytes(self) -> [u8; crate::LINE_REPORT] {
+        let (number, chains, weight, fitting) = match self {
+            Self::Impossible => (0, 0, 0, 0),
+            Self::Certain => (1, 0, 0, 0),
+            Self::Halves { weight } => (2, 0, weight.0.saturating_mul(16), 0),
+            Self::Counted {
+                weight,
+                chains,
+                fitting,
+            } => (3, chains, weight.0, fitting),
+        };
+        let weight = u32::try_from(weight).unwrap_or(u32::MAX);
+        let mut bytes = [0; crate::LINE_REPORT];
+        bytes[0] = number;
+        bytes[2..4].copy_from_slice(&chains.to_le_bytes());
+        bytes[4..8].copy_from_slice(&weight.to_le_bytes());
+        bytes[8..16].copy_from_slice(&fitting.to_le_bytes());
+        bytes
+    }
 }
 
 /// A sheet's totals.
@@ -93,4 +116,29 @@ pub struct ClauseCounts {
     pub variables: u64,
     /// The number of clauses of all lines.
     pub clauses: u64,
+}
+
+/// Which lines use each word of a sheet, in the numbers that the archive writes: for
+/// each word, rising from 0, how many lines name it as a used operand, and these lines,
+/// ascending.
+///
+/// It knows no differences: a sheet has one index, however its differences are changed.
+#[derive(Clone, Debug, PartialEq, Eq)]
+pub struct Index(pub Vec<u16>);
+
+impl Index {
+    /// The lines that use a word, ascending; a line that names it twice is there once.
+    /// The inputs come first among the words, then the lines' results.
+    ///
+    /// `None` for a word that the sheet has not.
+    pub fn users(&self, word: u16) -> Option<&[u16]> {
+        let mut rest = &self.0[..];
+        let mut lists = std::iter::from_fn(|| {
+            let (&count, after) = rest.split_first()?;
+            let (lines, next) = after.split_at_checked(count.into())?;
+            rest = next;
+            Some(lines)
+        });
+        lists.nth(word.into())
+    }
 }

@@ -129,4 +129,21 @@ extern "C" {
         replies: *mut u8,
         replies_len: usize,
     ) -> Answer;
+
+    /// Writes the index: for each word how many lines use it, and these lines; count:
+    /// the numbers written.
+    pub fn tablegull_index(sheet: *const u8, len: usize, out: *mut u16, out_len: usize) -> Answer;
+
+    /// Replaces the difference that a line states, and renews the report by the index;
+    /// count: 0.
+    pub fn tablegull_change_indexed(
+        sheet: *mut u8,
+        len: usize,
+        index: *const u16,
+        index_len: usize,
+        report: *mut u8,
+        report_len: usize,
+        line: u64,
+        difference: u64,
+    ) -> Answer;
 }

@@ -22,13 +22,16 @@
 //! | `change` | replaces the difference that a line states | nothing |
 //! | `trial` | all lines' reports as a change would make them | a [`LineReport`] for each line |
 //! | `change_all` | makes up to 64 changes in order | for each what `change` would answer |
+//! | `index` | which lines use each word | an [`Index`] |
+//! | `change_indexed` | replaces a line's difference, and renews by the index the reports that are kept beside the sheet | nothing |
 //!
 //! A call that is refused returns a [`Refusal`], and leaves every byte of a
 //! sheet as it was. The module `slices` has the same calls, for texts those for a
 //! part, over buffers that the caller holds: they write from the start of the lent
 //! buffer and leave the rest, and on a refusal all of it. Into a sheet itself write
-//! only `seal`, its checks, and `change` and `change_all`, a line's difference and its
-//! block's check for each change.
+//! only `seal`, its checks, and `change`, `change_all` and `change_indexed`, a line's
+//! difference and its block's check for each change; into the report that it is lent
+//! `change_indexed` writes the line's report and those of the lines that use its word.
 //!
 //! A word XORed with itself is refused by `seal` alone. Sheets that have been
 //! sealed with such a line can still be read and used.
@@ -37,8 +40,8 @@
 //! `TABLEGULL_LIB` names, or else in `../target/staticlib`.
 //!
 //! [`mod@reference`] has the calls of `slices` in plain Rust, written from documents
-//! 01 and 02 (all but joining, question 23, the texts and changes from these
-//! alone), and sharing no code with the archive; the tests hold the two against
+//! 01 and 02 (all but joining, question 23, the texts, changes and the index from
+//! these alone), and sharing no code with the archive; the tests hold the two against
 //! each other. [`builder`] makes sheets.
 //!
 //! Programs, all with `cargo run --release --bin NAME`:
@@ -62,7 +65,7 @@ pub mod reference;
 pub mod slices;
 pub mod text;
 
-pub use answers::{ClauseCounts, LineReport, Runs, Sixteenths, Totals, WholeBits};
+pub use answers::{ClauseCounts, Index, LineReport, Runs, Sixteenths, Totals, WholeBits};
 
 /// Bytes of the longest sheet.
 pub const MAX_SHEET: usize = 4608;
@@ -85,10 +88,13 @@ pub const MAX_REPORT_TEXT: usize = 64;
 /// Pairs of the longest list of changes.
 pub const MAX_CHANGES: usize = 64;
 
+/// Numbers of the longest index.
+pub const MAX_INDEX: usize = 752;
+
 /// The first question about a call's input whose answer is no.
 #[derive(Clone, Copy, Debug, PartialEq, Eq, Hash)]
 pub struct Refusal {
-    /// The question's number, 1 to 25.
+    /// The question's number, 1 to 26.
     pub number: u32,
     /// The block or line at which the answer is no; 0 where none is named.
     pub place: u64,
@@ -129,6 +135,7 @@ impl Refusal {
             23 => "In sealing, for kind 1, do the operands name different words?",
             24 => "Has the list of changes at most 64 pairs?",
             25 => "Has the reply buffer a byte for each pair of the list?",
+            26 => "Are index and report the sheet's own, each at its exact length?",
             _ => "no question has this number",
         }
     }
@@ -475,4 +482,75 @@ fn reply_to_change(line: usize, reply: u8) -> Result<(), Refusal> {
         14 => refused(14, line as u64),
         number => refused(number.into(), 0),
     }
+}
+
+/// Which lines use each word of the sheet.
+///
+/// A line uses its first operand, and its second one if it XORs, adds or subtracts two
+/// words. A line that names a word twice is one of its users once.
+///
+/// ```
+/// use tablegull::builder::{Line, SheetBuilder};
+///
+/// let mut sheet = SheetBuilder::new(4, &[1, 0]);
+/// let sum = sheet.line(Line::add(0, 1, 1));
+/// sheet.line(Line::rotate_left(sum, 1, 2));
+/// sheet.line(Line::xor(sum, 0, 0));
+/// let index = tablegull::index(&sheet.seal()?)?;
+/// assert_eq!(index.users(0), Some(&[0, 2][..]));
+/// assert_eq!(index.users(sum), Some(&[1, 2][..]));
+/// // For each of the five words the number of lines, and then the lines.
+/// assert_eq!(index.0, [2, 0, 2, 1, 0, 2, 1, 2, 0, 0]);
+/// # Ok::<(), tablegull::Refusal>(())
+/// ```
+#[cfg(has_archive)]
+pub fn index(sheet: &[u8]) -> Result<Index, Refusal> {
+    let mut numbers = vec![0; MAX_INDEX];
+    let count = slices::index(sheet, &mut numbers)?;
+    numbers.truncate(count);
+    Ok(Index(numbers))
+}
+
+/// Changes a difference as [`change`] does, and renews the reports that are kept beside
+/// the sheet: they are then what [`reports`] answers of the changed sheet. The index
+/// stays as it is, and both can be handed to the next call.
+///
+/// Index and reports have to be the sheet's own, as [`index`] and [`reports`] answer
+/// them. Where one is not, as may be after a change by another call, 26 is the refusal.
+/// Then come 17 and 14, as of [`change`]. A refusal leaves sheet and reports as they are.
+///
+/// ```
+/// use tablegull::builder::{Line, SheetBuilder};
+/// use tablegull::LineReport::{Certain, Impossible};
+///
+/// let mut sheet = SheetBuilder::new(4, &[1]);
+/// let turned = sheet.line(Line::rotate_left(0, 1, 4));
+/// sheet.line(Line::rotate_left(turned, 1, 4));
+/// let mut bytes = sheet.seal()?;
+/// let index = tablegull::index(&bytes)?;
+/// let mut reports = tablegull::reports(&bytes)?;
+/// assert_eq!(reports, [Impossible, Impossible]);
+///
+/// // Line 1 uses the word of line 0.
+/// tablegull::change_indexed(&mut bytes, &index, &mut reports, 0, 2)?;
+/// assert_eq!(reports, [Certain, Certain]);
+///
+/// tablegull::change(&mut bytes, 1, 8)?;
+/// let other = tablegull::change_indexed(&mut bytes, &index, &mut reports, 1, 4);
+/// assert_eq!(other.unwrap_err().number, 26);
+/// # Ok::<(), tablegull::Refusal>(())
+/// ```
+#[cfg(has_archive)]
+pub fn change_indexed(
+    sheet: &mut [u8],
+    index: &Index,
+    reports: &mut [LineReport],
+    line: usize,
+    difference: u64,
+) -> Result<(), Refusal> {
+    let lent = reports.iter().copied();
+    let mut bytes: Vec<u8> = lent.flat_map(LineReport::to_bytes).collect();
+    slices::change_indexed(sheet, &index.0, &mut bytes, line, difference)?;
+    reports.copy_from_slice(&reports_of_bytes(&bytes));
+    Ok(())
 }

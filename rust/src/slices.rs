@@ -230,3 +230,45 @@ pub fn change_all(sheet: &mut [u8], pairs: &[u64], replies: &mut [u8]) -> Result
         )
     })
 }
+
+/// Writes the sheet's index: for each word, the inputs first and then the lines' words,
+/// how many lines name it as a used operand, and these lines, ascending. A line that
+/// names a word twice is there once. Answers the count of numbers written, at most
+/// [`MAX_INDEX`](crate::MAX_INDEX).
+pub fn index(sheet: &[u8], out: &mut [u16]) -> Result<usize, Refusal> {
+    // SAFETY: each pointer and length are one slice's, and `out` is borrowed
+    // for writing.
+    outcome(unsafe {
+        ffi::tablegull_index(sheet.as_ptr(), sheet.len(), out.as_mut_ptr(), out.len())
+    })
+}
+
+/// Changes a difference as [`change`] does, and renews the report that is kept beside
+/// the sheet: it is then what [`report`] writes of the changed sheet. The index stays
+/// as it is, and is the changed sheet's own too. Answers 0.
+///
+/// Where `index` is not just what [`index`] writes of the sheet, or `report` not just
+/// what [`report`] does, the call is refused by 26, whatever the line and the
+/// difference are; and then nothing is written.
+pub fn change_indexed(
+    sheet: &mut [u8],
+    index: &[u16],
+    report: &mut [u8],
+    line: usize,
+    difference: u64,
+) -> Result<usize, Refusal> {
+    // SAFETY: each pointer and length are one slice's, and `sheet` and `report` are
+    // borrowed for writing.
+    outcome(unsafe {
+        ffi::tablegull_change_indexed(
+            sheet.as_mut_ptr(),
+            sheet.len(),
+            index.as_ptr(),
+            index.len(),
+            report.as_mut_ptr(),
+            report.len(),
+            line as u64,
+            difference,
+        )
+    })
+}

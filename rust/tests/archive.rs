@@ -22,11 +22,12 @@ mod compared {
     use super::common::changing::random_change;
     use super::common::changing_all::{assert_same, random_list, random_room_of_replies};
     use super::common::damage::damage_a_field;
+    use super::common::indexing::{self, spoil, Kept};
     use super::common::lending::{rewritten, Element};
     use super::common::sealing::{random_sheet_to_seal, Met};
     use super::common::{
-        disturb, random_lines, random_program, random_shape, write_checks, KeptOnFailure, Outcome,
-        Program, Random, ARCHIVE, REFERENCE,
+        disturb, example, random_lines, random_program, random_shape, write_checks, KeptOnFailure,
+        Outcome, Program, Random, ARCHIVE, REFERENCE,
     };
 
     /// Lends both calls the same buffer, a part of a longer one, and compares
@@ -127,6 +128,34 @@ mod compared {
         let theirs = ARCHIVE.changed_all(sheet, &list, room);
         let ours = REFERENCE.changed_all(sheet, &list, room);
         assert_same(&theirs, &ours, case);
+        if let Ok(changed) = theirs {
+            let read = (ARCHIVE.read)(&changed.sheet);
+            assert!(read.is_ok(), "{}: not readable", case());
+        }
+    }
+
+    fn compare_index(random: &mut Random, sheet: &[u8], length: usize) {
+        compare(
+            random,
+            length,
+            "index",
+            |out| (ARCHIVE.index)(sheet, out),
+            |out| (REFERENCE.index)(sheet, out),
+        );
+    }
+
+    fn compare_change_indexed(
+        random: &mut Random,
+        sheet: &[u8],
+        lent: &Kept,
+        width: u32,
+        lines: usize,
+    ) {
+        let change = random_change(random, width, lines);
+        let case = || format!("change_indexed, {change:?}");
+        let theirs = ARCHIVE.changed_indexed(sheet, lent, change);
+        let ours = REFERENCE.changed_indexed(sheet, lent, change);
+        indexing::assert_same(&theirs, &ours, case);
         if let Ok(changed) = theirs {
             let read = (ARCHIVE.read)(&changed.sheet);
             assert!(read.is_ok(), "{}: not readable", case());
@@ -235,6 +264,13 @@ mod compared {
             compare_change(random, &sheet, program.width, lines, length);
             compare_change_all(random, &sheet, program.width, lines);
         }
+        let mut lent = Kept::of(&sheet);
+        for length in lengths(random, lent.index.len()) {
+            compare_index(random, &sheet, length);
+            compare_change_indexed(random, &sheet, &lent, program.width, lines);
+        }
+        spoil(random, &mut lent);
+        compare_change_indexed(random, &sheet, &lent, program.width, lines);
         for length in 0..5 {
             compare_small_calls(random, &sheet, start, length);
         }
@@ -274,6 +310,16 @@ mod compared {
         let lines = answer.unwrap_or(20);
         compare_change(random, sheet, width, lines, length);
         compare_change_all(random, sheet, width, lines);
+        compare_index(random, sheet, length);
+        // A sheet that is refused has no index and no report: it is lent the example's.
+        let mut lent = match answer {
+            Ok(_) => Kept::of(sheet),
+            Err(_) => Kept::of(&example()),
+        };
+        if random.one_in(4) {
+            spoil(random, &mut lent);
+        }
+        compare_change_indexed(random, sheet, &lent, width, lines);
         compare_small_calls(random, sheet, &start, length.min(8));
         assert!(sheet == before, "a read-only sheet was written");
         answer

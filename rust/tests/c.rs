@@ -1,5 +1,5 @@
 //! The C header, as a C compiler reads it: every call is made through it, on the
-//! archive, and the README's three examples in C are compiled and run. The compiler
+//! archive, and the README's four examples in C are compiled and run. The compiler
 //! is `cc`, which links this package too, or the one that `CC` names.
 
 mod common;
@@ -100,6 +100,7 @@ int main(void) {
     const uint64_t pairs[7] = {2, 8, 1, UINT64_C(0x100000004), 3, 0, 0};
     uint64_t many[130] = {0};
     uint8_t replies[TABLEGULL_MAX_CHANGES] = {0};
+    uint16_t index[TABLEGULL_MAX_INDEX];
     uint64_t words[3];
     struct tablegull_answer a;
     said(tablegull_read(first, len));
@@ -134,6 +135,18 @@ int main(void) {
     a = tablegull_change_all(first, len, pairs, 7, replies, 3);
     said(a);
     for (uint64_t i = 0; i < a.count; i++) printf(" %u", replies[i]);
+    printf("\n");
+    said_bytes(tablegull_report(first, len, bytes, TABLEGULL_MAX_REPORT));
+    said(tablegull_index(first, len, index, 8));
+    a = tablegull_index(first, len, index, TABLEGULL_MAX_INDEX);
+    said(a);
+    for (uint64_t i = 0; i < a.count; i++) printf(" %u", index[i]);
+    printf("\n");
+    said(tablegull_change_indexed(first, len, index, a.count - 1, bytes, 48, 3, 16));
+    said(tablegull_change_indexed(first, len, index, a.count, bytes, 48, 3, 16));
+    said(tablegull_change_indexed(first, len, index, a.count, bytes, 48, 2, 16));
+    said(tablegull_change_indexed(first, len, index, a.count, bytes, 48, 2, 2));
+    for (int i = 0; i < 48; i++) printf(" %u", bytes[i]);
     printf("\n");
     said_bytes(tablegull_report(first, len, bytes, TABLEGULL_MAX_REPORT));
     return 0;
@@ -212,6 +225,13 @@ int main(void) {
         slices::change(&mut changed, 1, 4).unwrap();
         slices::change(&mut changed, 2, 8).unwrap();
         line(said(slices::report(&changed, &mut bytes), &bytes));
+        // Two words for inputs, three for lines, and four uses.
+        line("18 0 0:0 0 9: 2 0 2 2 0 1 0 0 0".into());
+        slices::change(&mut changed, 2, 2).unwrap();
+        let renewed = said(slices::report(&changed, &mut bytes), &bytes);
+        let (_, its_bytes) = renewed.split_once(':').unwrap();
+        line(format!("26 0 0:17 0 0:14 2 0:0 0 0:{its_bytes}"));
+        line(renewed);
         let files = [("first", first), ("second", second)];
         assert_eq!(run("calls", CALLS, &files), (expected, Some(0)));
     }
@@ -246,7 +266,7 @@ int main(void) {
             one.split(':').next().unwrap()
         });
         assert_eq!(header, package);
-        assert_eq!(header.len(), 14);
+        assert_eq!(header.len(), 16);
     }
 
     /// The README's indented lines from one that begins so, up to a blank one.
@@ -295,5 +315,28 @@ int main(void) {
         let files = [("sheet", &printed[..]), ("mended", &mended[..])];
         let changed = run("changes", &program, &files);
         assert_eq!(changed, ("3 0 0 17\n".to_string(), Some(0)));
+    }
+
+    /// The first of those changes, with index and report beside the sheet: both are
+    /// afterwards those that are made afresh.
+    #[test]
+    fn the_readmes_index() {
+        let printed = include_bytes!("../../examples/lea7_printed.sheet");
+        let change = of_readme("uint16_t index[TABLEGULL_MAX_INDEX]");
+        let program = format!(
+            "#include \"tablegull.h\"\n#include <stdio.h>\n#include <string.h>\n\
+             static uint8_t sheet[TABLEGULL_MAX_SHEET];\n\
+             static uint8_t fresh[TABLEGULL_MAX_REPORT];\nstatic uint16_t again[TABLEGULL_MAX_INDEX];\n\
+             int main(void) {{\nFILE *read = fopen(\"sheet\", \"rb\");\n\
+             size_t len = fread(sheet, 1, sizeof sheet, read);\n\
+             struct tablegull_answer a;\n{change}\
+             printf(\"%d %d %d\\n\", (int)a.number, (int)numbers, (int)bytes);\n\
+             tablegull_report(sheet, len, fresh, sizeof fresh);\n\
+             tablegull_index(sheet, len, again, TABLEGULL_MAX_INDEX);\n\
+             return memcmp(report, fresh, bytes) != 0 || memcmp(index, again, 2 * numbers) != 0;\n}}\n"
+        );
+        let numbers = tablegull::index(&printed[..]).unwrap().0.len();
+        let changed = run("index", &program, &[("sheet", &printed[..])]);
+        assert_eq!(changed, (format!("0 {numbers} {}\n", 16 * 140), Some(0)));
     }
 }

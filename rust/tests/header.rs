@@ -2,7 +2,7 @@
 //! and questions.
 
 use tablegull::{
-    Refusal, LINE_REPORT, MAX_CHANGES, MAX_CLAUSE_TEXT, MAX_LINES, MAX_LINE_CLAUSES,
+    Refusal, LINE_REPORT, MAX_CHANGES, MAX_CLAUSE_TEXT, MAX_INDEX, MAX_LINES, MAX_LINE_CLAUSES,
     MAX_REPORT_TEXT, MAX_SHEET,
 };
 
@@ -36,6 +36,7 @@ fn the_header_has_the_packages_lengths() {
         ("MAX_CLAUSE_TEXT", MAX_CLAUSE_TEXT),
         ("MAX_REPORT_TEXT", MAX_REPORT_TEXT),
         ("MAX_CHANGES", MAX_CHANGES),
+        ("MAX_INDEX", MAX_INDEX),
     ];
     assert_eq!(defined.collect::<Vec<(&str, usize)>>(), wanted);
 }
@@ -63,7 +64,7 @@ fn questions() -> Vec<(u32, &'static str, String)> {
 #[test]
 fn the_header_asks_what_the_package_asks() {
     let rows = questions();
-    assert!(rows.iter().map(|(number, ..)| *number).eq(1..=25));
+    assert!(rows.iter().map(|(number, ..)| *number).eq(1..=26));
     for (number, place, question) in rows {
         let wanted = match number {
             2 | 16 => "block",
@@ -73,7 +74,7 @@ fn the_header_asks_what_the_package_asks() {
         assert_eq!(place, wanted, "{number}");
         assert_eq!(question, Refusal { number, place: 0 }.question());
     }
-    for number in [0, 26] {
+    for number in [0, 27] {
         let none = Refusal { number, place: 0 };
         assert_eq!(none.question(), "no question has this number");
     }

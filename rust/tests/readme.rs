@@ -286,6 +286,21 @@ mod in_rust {
         Ok(())
     }
 
+    fn changing_indexed() -> Result<(), Any> {
+        // From here
+        let mut sheet = std::fs::read("examples/lea7_printed.sheet")?;
+        let index = tablegull::index(&sheet)?;
+        let mut reports = tablegull::reports(&sheet)?;
+        assert_eq!(index.users(8 + 138), Some(&[139][..]));
+        tablegull::change_indexed(&mut sheet, &index, &mut reports, 138, 0x0004_0440)?;
+        assert_eq!(reports[139], tablegull::LineReport::Impossible);
+        tablegull::change_indexed(&mut sheet, &index, &mut reports, 139, 0x0000_8088)?;
+        assert_eq!(reports, tablegull::reports(&sheet)?);
+        assert_eq!(sheet, std::fs::read("examples/lea7.sheet")?);
+        // to here
+        Ok(())
+    }
+
     #[test]
     fn the_examples_run() {
         // The other tests here name no file by a path that starts where they are.
@@ -294,6 +309,7 @@ mod in_rust {
         joining().unwrap();
         changing().unwrap();
         changing_all().unwrap();
+        changing_indexed().unwrap();
     }
 
     #[test]
@@ -301,7 +317,7 @@ mod in_rust {
         let readme = include_str!("../../README.md");
         let source = include_str!("readme.rs");
         let examples: Vec<&str> = source.split("        // From here\n").skip(1).collect();
-        assert_eq!(examples.len(), 4);
+        assert_eq!(examples.len(), 5);
         for example in examples {
             let (example, _) = example.split_once("        // to here\n").unwrap();
             let lines = example

@@ -175,6 +175,13 @@ fn each_question_has_its_number_and_place() {
             }));
             let changed = (calls.change_all)(&mut bytes, &[0; 130], &mut []);
             assert_eq!(changed, reading_then_24, "{name}, byte {at}");
+
+            // There is no room for the index, and no index.
+            let reading_then = |number| reading(&[damage]).and(Err(Refusal { number, place: 0 }));
+            let indexed = (calls.index)(&bytes, &mut []);
+            assert_eq!(indexed, reading_then(18), "{name}, byte {at}");
+            let changed = (calls.change_indexed)(&mut bytes, &[], &mut [], 33, u64::MAX);
+            assert_eq!(changed, reading_then(26), "{name}, byte {at}");
             assert_eq!(bytes, before, "{name}, byte {at}");
         }
     }
@@ -307,6 +314,25 @@ fn questions_about_a_call_come_after_the_sheet() {
         assert_eq!(change_all(&good, 130, 65), refused(24, 0));
         assert_eq!(change_all(&good, 129, 63), refused(25, 0));
         assert_eq!(change_all(&good, 129, 64), Ok(64));
+
+        // 3 inputs, 33 lines, and 48 uses: 15 lines have two operands.
+        assert_eq!((calls.index)(&bad, &mut []), refused(9, 32));
+        assert_eq!((calls.index)(&good, &mut [0; 83]), refused(18, 0));
+        assert_eq!((calls.index)(&good, &mut [0; 84]), Ok(84));
+
+        let (mut index, mut report) = ([0; 84], [0; 33 * 16]);
+        (calls.index)(&good, &mut index).unwrap();
+        (calls.report)(&good, &mut report).unwrap();
+        let change_indexed = |sheet: &[u8], index: &[u16], line, difference| {
+            let (mut sheet, mut report) = (sheet.to_vec(), report);
+            (calls.change_indexed)(&mut sheet, index, &mut report, line, difference)
+        };
+        let short = &index[..83];
+        assert_eq!(change_indexed(&bad, short, 33, 1 << 20), refused(9, 32));
+        assert_eq!(change_indexed(&good, short, 33, 1 << 20), refused(26, 0));
+        assert_eq!(change_indexed(&good, &index, 33, 1 << 20), refused(17, 0));
+        assert_eq!(change_indexed(&good, &index, 32, 1 << 20), refused(14, 32));
+        assert_eq!(change_indexed(&good, &index, 32, (1 << 20) - 1), Ok(0));
 
         for text in [calls.clause_text_part, calls.report_text_part] {
             assert_eq!(text(&bad, 34, &mut []), refused(9, 32));

@@ -8,7 +8,7 @@ mod common;
 use common::texts::TEXTS;
 use common::{write_checks, Program, Report, ARCHIVE};
 use tablegull::builder::{Line, SheetBuilder};
-use tablegull::{slices, LineReport, Refusal, Runs, Sixteenths, Totals, WholeBits};
+use tablegull::{slices, Index, LineReport, Refusal, Runs, Sixteenths, Totals, WholeBits};
 
 /// At 4 bits: one line for each report, words 0 and 1 as inputs.
 fn sheet() -> Vec<u8> {
@@ -313,6 +313,115 @@ fn lists_of_changes_are_refused() {
     }
 }
 
+#[test]
+fn an_index_has_its_own_length_and_its_users() {
+    let sheet = sheet();
+    let index = tablegull::index(&sheet).expect("an accepted sheet");
+    let mut lent = [7; tablegull::MAX_INDEX];
+    assert_eq!(slices::index(&sheet, &mut lent), Ok(index.0.len()));
+    assert_eq!(lent[..index.0.len()], index.0[..]);
+    assert_eq!(index.0, [3, 0, 1, 2, 2, 2, 3, 0, 0, 0, 0]);
+    let program = Program::parse(&sheet);
+    for word in 0..6 {
+        let users = program.users(word.into());
+        assert_eq!(index.users(word), Some(&users[..]), "{word}");
+    }
+    for word in [6, 7, 255, 256, u16::MAX] {
+        assert_eq!(index.users(word), None, "{word}");
+    }
+    // Numbers that end in the midst of a word's.
+    for length in 0..4 {
+        let cut = Index(index.0[..length].to_vec());
+        assert_eq!(cut.users(0), None, "{length}");
+    }
+    let mut bad = sheet;
+    bad[1023] ^= 1;
+    let refusal = Refusal {
+        number: 2,
+        place: 1,
+    };
+    assert_eq!(tablegull::index(&bad), Err(refusal));
+}
+
+#[test]
+fn reports_are_renewed() {
+    let sheet = sheet();
+    let index = tablegull::index(&sheet).expect("an accepted sheet");
+    let own = tablegull::reports(&sheet).expect("an accepted sheet");
+    // Line 1 can happen with 2, and line 2 cannot with 1.
+    for (line, difference) in [(1, 2), (2, 1), (3, 4), (0, 2), (0, 15)] {
+        let (mut changed, mut plain, mut by_slices) = (sheet.clone(), sheet.clone(), sheet.clone());
+        let mut reports = own.clone();
+        let answer =
+            tablegull::change_indexed(&mut changed, &index, &mut reports, line, difference);
+        assert_eq!(answer, Ok(()));
+        tablegull::change(&mut plain, line, difference).expect("a change that fits");
+        assert!(changed == plain);
+        assert_eq!(tablegull::reports(&changed), Ok(reports.clone()));
+        assert_eq!(tablegull::index(&changed).as_ref(), Ok(&index));
+
+        let mut report = ARCHIVE.whole_report(&sheet);
+        let answer =
+            slices::change_indexed(&mut by_slices, &index.0, &mut report, line, difference);
+        assert_eq!(answer, Ok(0));
+        assert!(changed == by_slices);
+        assert!(reports.iter().flat_map(|one| one.to_bytes()).eq(report));
+    }
+}
+
+#[test]
+fn indexed_changes_are_refused() {
+    let mut sheet = sheet();
+    let index = tablegull::index(&sheet).expect("an accepted sheet");
+    let own = tablegull::reports(&sheet).expect("an accepted sheet");
+    let mut check = |index: &Index, reports: &[LineReport], line, difference, number, place| {
+        let (before, mut after) = (sheet.clone(), reports.to_vec());
+        let answer = tablegull::change_indexed(&mut sheet, index, &mut after, line, difference);
+        assert_eq!(answer, Err(Refusal { number, place }));
+        assert!(sheet == before && after == reports);
+    };
+    check(&index, &own, 4, 16, 17, 0);
+    check(&index, &own, usize::MAX, 1, 17, 0);
+    check(&index, &own, 3, 16, 14, 3);
+    check(&index, &own, 2, (1 << 32) + 1, 14, 2);
+    // Not the sheet's own.
+    for length in 0..index.0.len() {
+        let shorter = Index(index.0[..length].to_vec());
+        check(&shorter, &own, 4, 16, 26, 0);
+    }
+    let longer = Index([&index.0[..], &[0]].concat());
+    check(&longer, &own, 0, 1, 26, 0);
+    for count in 0..own.len() {
+        check(&index, &own[..count], 0, 1, 26, 0);
+    }
+    for more in [1, 244, 245, 1000] {
+        let longer = [&own[..], &vec![LineReport::Impossible; more]].concat();
+        check(&index, &longer, 0, 1, 26, 0);
+    }
+    for line in 0..own.len() {
+        let mut other = own.clone();
+        other[line] = own[(line + 1) % own.len()];
+        check(&index, &other, line, 1, 26, 0);
+    }
+    // Weights of which the low 32 bits are the line's.
+    let mut other = own.clone();
+    other[2] = LineReport::Halves {
+        weight: WholeBits((1 << 28) + 2),
+    };
+    check(&index, &other, 0, 1, 26, 0);
+    other[2] = LineReport::Halves {
+        weight: WholeBits((1 << 60) + 2),
+    };
+    check(&index, &other, 0, 1, 26, 0);
+    let mut other = own.clone();
+    other[3] = LineReport::Counted {
+        weight: Sixteenths((1 << 32) + 8),
+        chains: 1,
+        fitting: 12,
+    };
+    check(&index, &other, 0, 1, 26, 0);
+}
+
 /// A sheet of 248 lines whose reports have the largest numbers, and the one with
 /// the longest lists and texts.
 const LARGEST: [&[u8]; 2] = [
@@ -350,6 +459,12 @@ fn the_largest_reports_are_whole() {
         assert!(reports.iter().copied().map(numbers).eq(expected.clone()));
         let stated = Program::parse(sheet).steps[0].difference.into();
         assert!(tablegull::trial(sheet, 0, stated) == Ok(reports.clone()));
+        let index = tablegull::index(sheet).expect("an accepted sheet");
+        assert!(index.0 == Program::parse(sheet).index());
+        let (mut same, mut renewed) = (sheet.to_vec(), reports.clone());
+        let answer = tablegull::change_indexed(&mut same, &index, &mut renewed, 0, stated);
+        assert_eq!(answer, Ok(()));
+        assert!(same == sheet && renewed == reports);
         for (line, report) in reports.into_iter().enumerate() {
             assert_eq!(tablegull::line_report(sheet, line), Ok(report));
         }

@@ -7,6 +7,7 @@
 // - `#joins`: joining, as `join_cases` says;
 // - `#differences`: changing a stated difference and trying a change, as `change_cases` says;
 // - `#lists`: a list of changes in one call, as `change_list_cases` says;
+// - `#indexes`: a sheet's index, and changes that are lent index and report, as `index_cases` says;
 // - `#texts`: what the programs print, as `program_texts` says.
 mod program_texts;
 
@@ -15,7 +16,7 @@ use case_text::parse::find;
 use libc::STDIN_FILENO;
 
 // Room for all cases.
-const CASES_BYTES: usize = 425984;
+const CASES_BYTES: usize = 458752;
 
 fn main() {
     let mut input = [0u8; CASES_BYTES];
@@ -55,6 +56,7 @@ fn run_case(line: &[u8], subject: u8) {
         b'j' => join_cases::run_case(line),
         b'd' => change_cases::run_case(line),
         b'l' => change_list_cases::run_case(line),
+        b'i' => index_cases::run_case(line),
         _ => run_text(line),
     }
 }

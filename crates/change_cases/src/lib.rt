@@ -102,7 +102,7 @@ fn run_change(sheet: &mut [u8], copy: &mut [u8], k: usize, difference: u64)
 }
 
 // The answer of `changing::change`: ` changed`, or a refusal.
-fn print_made(made: ChangeAnswer) {
+pub fn print_made(made: ChangeAnswer) {
     match made {
         ChangeAnswer::Changed => print(b" changed"),
         ChangeAnswer::Refused(refusal) => print_refused(refusal.number, refusal.place),

@@ -17,6 +17,7 @@ use Rattle.sealed_sheets.proofs.WrittenChecks.{sealed-no}
 use Rattle.sealed_sheets.proofs.Demand2.{sealing-is-right}
 use Rattle.changed_sheets.proofs.Answered.{change-answers-in-order}
 use Rattle.change_lists.proofs.Answered.{changes-answer-in-order}
+use Rattle.indexed_changes.proofs.Answered.{indexed-answers-in-order}
 use Rattle.trail_reports.proofs.Demand2.{sheet-reports-are-right}
 use Rattle.clauses.proofs.Demand3.{every-sheet-pairs}
 use Rattle.demands.specs.Demands.{FirstNo, Demands}
@@ -78,6 +79,8 @@ demands = record {
     refused-unsealed = λ s number place e. sealed-no s (no-verdict (questions Seal s) (headerOf s) e);
     refused-unchanged = λ s k d number place e. change-answers-in-order s k d .kept number place e;
     refused-unapplied = λ s numbers out number place e. changes-answer-in-order s numbers out .kept number place e .unapplied;
+    refused-unrenewed = λ s index report k d number place e.
+        let left = indexed-answers-in-order s index report k d .kept number place e in (left .unchanged, left .unrenewed);
   };
   second = record { reports = sheet-reports-are-right; sealing = sealing-is-right };
   third = every-sheet-pairs;

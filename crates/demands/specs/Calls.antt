@@ -1,6 +1,7 @@
 -- What the calls that write answer, of every sheet, line and buffer: 17, 18 and 19 after the reading, in their order, place 0
 -- (document 01, "Questions, in order"). Those for texts and for joining stand in text_parts and in joined_sheets, those for a change,
--- a list of changes and a trial in changed_sheets, in change_lists and in tried_changes.
+-- a list of changes and a trial in changed_sheets, in change_lists and in tried_changes, those for the index and for a change lent
+-- index and report in sheet_indexes and in indexed_changes.
 use Prim.Native.Nat.{ℕ, _≤_, _<_}
 use mathlib.Core.Path.{_≡_}
 use mathlib.Core.Bool.{false}

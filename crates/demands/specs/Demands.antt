@@ -15,6 +15,7 @@ use Rattle.sealed_sheets.specs.Sealing.{sealed}
 use Rattle.sealed_sheets.specs.Demands.{SealingIsRight}
 use Rattle.changed_sheets.specs.ChangeCall.{changeCall}
 use Rattle.change_lists.specs.ChangesCall.{changesCall, changesSheet}
+use Rattle.indexed_changes.specs.IndexedCall.{indexedCall, indexedSheet}
 use Rattle.trail_reports.specs.Demand2.{SheetReportsAreRight}
 use Rattle.clauses.specs.Demand3.{EverySheetPairs}
 use Rattle.demands.specs.Calls.{CallsAnswer}
@@ -30,8 +31,8 @@ pub record FirstNo (qs : List Question) (number place : ℕ) : Type 0 where
 -- that number and place. Every call returns, checks all its own input, and on a refusal writes to no lent buffer.
 -- Each call on a sheet answers the verdict of its list of questions, whatever it is lent: that is its contract, which requires nothing.
 -- Its list begins with those of the reading, or of sealing. What these are, in their order; what a verdict is; what stands in a lent
--- buffer afterwards where it is a refusal; and the calls that write, but for those for texts, joining, changes, lists of changes and
--- trials, one by one:
+-- buffer afterwards where it is a refusal; and the calls that write, but for those for texts, joining, changes, lists of changes,
+-- trials and indexes, one by one:
 pub record Demand1 : Type 1 where
   pub reading-asks : ReadingAsks
   pub sealing-asks : SealingAsks
@@ -44,6 +45,8 @@ pub record Demand1 : Type 1 where
   pub refused-unchanged : (s : List ℕ) (k d number place : ℕ) → changeCall s k d .answer ≡ refused number place → changeCall s k d .buffer ≡ s
   pub refused-unapplied : (s numbers out : List ℕ) (number place : ℕ) → changesCall s numbers out .answer ≡ refused number place
       → changesSheet s numbers out ≡ s
+  pub refused-unrenewed : (s index report : List ℕ) (k d number place : ℕ) → indexedCall s index report k d .answer ≡ refused number place
+      → (indexedSheet s index report k d ≡ s) × (indexedCall s index report k d .buffer ≡ report)
 
 -- Demand 2. Each line's report is the XOR differential of source document 000: impossible exactly when no operand values fit, else
 -- with the exact number of fitting words or pairs and the weight that bounds it. A sheet that sealing accepts becomes readable, only

@@ -17,6 +17,8 @@ ghost use Rattle.report_file.specs.Parts.{reportTextCall};
 ghost use Rattle.joined_sheets.specs.JoinCall.{joinCall};
 ghost use Rattle.changed_sheets.specs.ChangeCall.{changeCall};
 ghost use Rattle.change_lists.specs.ChangesCall.{changesCall, changesSheet};
+ghost use Rattle.indexed_changes.specs.IndexedCall.{indexedCall, indexedSheet};
+ghost use Rattle.sheet_indexes.specs.IndexCall.{indexCall};
 ghost use Rattle.tried_changes.specs.TrialCall.{trialCall};
 use answers::Answer;
 use changing_c::change;
@@ -24,6 +26,8 @@ use changing_c::change_all;
 use changing_c::trial;
 use clauses_c::clause_counts;
 use clauses_c::line_clauses;
+use indexing_c::change_indexed;
+use indexing_c::index;
 use joining_c::join;
 use reading_c::read;
 use report_c::line_report;
@@ -172,4 +176,30 @@ pub extern "C" fn tablegull_trial(
         × (now (out .exit) ≡ trialCall (now (sheet .entry)) line difference (now (out .entry)) .buffer) ⌝ }
 {
     trial(sheet, line, difference, out)
+}
+
+// Writes the index: for each word how many lines use it, and those lines. Counts numbers.
+#[no_mangle]
+pub extern "C" fn tablegull_index(sheet: &[u8], out: &mut [u16]) -> Answer
+    ensures { λ r. ⌜ (r ≡ answerOf (indexCall (now (sheet .entry)) (now (out .entry)) .answer))
+        × (now (out .exit) ≡ indexCall (now (sheet .entry)) (now (out .entry)) .buffer) ⌝ }
+{
+    index(sheet, out)
+}
+
+// Replaces one stated difference, renews the check of its block, and renews the report at the lines that the index names. Counts
+// nothing.
+#[no_mangle]
+pub extern "C" fn tablegull_change_indexed(
+    sheet: &mut [u8],
+    index: &[u16],
+    report: &mut [u8],
+    line: u64,
+    difference: u64,
+) -> Answer
+    ensures { λ r. ⌜ (r ≡ answerOf (indexedCall (now (sheet .entry)) (now (index .entry)) (now (report .entry)) line difference .answer))
+        × (now (report .exit) ≡ indexedCall (now (sheet .entry)) (now (index .entry)) (now (report .entry)) line difference .buffer)
+        × (now (sheet .exit) ≡ indexedSheet (now (sheet .entry)) (now (index .entry)) (now (report .entry)) line difference) ⌝ }
+{
+    change_indexed(sheet, index, report, line, difference)
 }

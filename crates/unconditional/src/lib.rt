@@ -3,8 +3,10 @@
 use answers::Refusal;
 use tablegull::tablegull_change;
 use tablegull::tablegull_change_all;
+use tablegull::tablegull_change_indexed;
 use tablegull::tablegull_clause_counts;
 use tablegull::tablegull_clause_text;
+use tablegull::tablegull_index;
 use tablegull::tablegull_join;
 use tablegull::tablegull_line_clauses;
 use tablegull::tablegull_line_report;
@@ -52,6 +54,18 @@ pub fn in_rattle_listed(sheet: &mut [u8], pairs: &[u64], replies: &mut [u8]) {
     changing_all::change_all(sheet, pairs, replies);
 }
 
+// Those on an index, and on a report beside it.
+pub fn in_rattle_indexed(
+    sheet: &mut [u8],
+    index: &mut [u16],
+    report: &mut [u8],
+    line: usize,
+    difference: u64,
+) {
+    indexing::index(sheet, index);
+    changing_indexed::change_indexed(sheet, index, report, line, difference);
+}
+
 // The exported calls on a sheet's bytes.
 pub fn on_bytes(sheet: &mut [u8], number: u64, out: &mut [u8]) {
     tablegull_read(sheet);
@@ -88,4 +102,16 @@ pub fn on_a_difference(sheet: &mut [u8], line: u64, difference: u64, out: &mut [
 // The one on a list of them.
 pub fn on_pairs(sheet: &mut [u8], pairs: &[u64], replies: &mut [u8]) {
     tablegull_change_all(sheet, pairs, replies);
+}
+
+// Those on an index, and on a report beside it.
+pub fn on_an_index(
+    sheet: &mut [u8],
+    index: &mut [u16],
+    report: &mut [u8],
+    line: u64,
+    difference: u64,
+) {
+    tablegull_index(sheet, index);
+    tablegull_change_indexed(sheet, index, report, line, difference);
 }

@@ -17,18 +17,25 @@
 //! same sheet, and of lists of 64 changes by the reading of it, medians over the
 //! rounds again, and how long the archive may take at most. Beside the lists stand
 //! the times of as many single changes.
+//!
+//! Of a change that is lent index and report, what the change itself takes is measured
+//! by the report of the same sheet: the time of a call that is applied, less that of the
+//! same call for a line that there is not, which reads, compares index and report with
+//! the sheet's own, and answers 17.
 
+use std::cell::RefCell;
 use std::fs::{File, OpenOptions};
 use std::hint::black_box;
 use std::io;
+use std::rc::Rc;
 use std::time::{Duration, Instant};
 
 use tablegull::builder::{Line, SheetBuilder};
 use tablegull::reference::{self, LineReport, Sheet};
 use tablegull::text::TextWriter;
 use tablegull::{
-    Refusal, LINE_REPORT, MAX_CHANGES, MAX_CLAUSE_TEXT, MAX_LINES, MAX_LINE_CLAUSES,
-    MAX_REPORT_TEXT, MAX_SHEET,
+    Index, Refusal, LINE_REPORT, MAX_CHANGES, MAX_CLAUSE_TEXT, MAX_INDEX, MAX_LINES,
+    MAX_LINE_CLAUSES, MAX_REPORT_TEXT, MAX_SHEET,
 };
 
 /// Rounds of single calls. Whole texts have one round in so many of these.
@@ -52,14 +59,22 @@ fn main() {
     let cheap = sheet_of(&[1, 2, 3, 4], MAX_LINES);
     let of_one_word = sheet_of_one_word(MAX_LINES);
     let single = sheet_of_one_word(1);
+    let three_costly = sheet_of_three_costly();
     for sheet in [&additions, &same_operands, &few_operands] {
         assert_every_line_charged(sheet);
     }
-    for sheet in [&of_one_word, &single] {
+    for sheet in [&of_one_word, &single, &three_costly] {
         assert_sums_stay_possible(sheet);
     }
     let middle = MAX_LINES / 2;
-    let mut cases = [
+    let of_two_users = [
+        ("all kinds mixed", &mixed, line_of_two_users(&mixed)),
+        ("kinds 1 to 4", &cheap, line_of_two_users(&cheap)),
+        ("kind 5 only", &additions, line_of_two_users(&additions)),
+        ("kind 6 only", &constants, line_of_two_users(&constants)),
+        ("three of kind 6", &three_costly, 0),
+    ];
+    let mut cases = vec![
         Case::new("read, all kinds mixed", read(&mixed)),
         Case::new("read, mixed, 64 lines", read(&short)),
         Case::new("seal, all kinds mixed", seal(&mixed)),
@@ -92,7 +107,23 @@ fn main() {
         Case::new("one list, kind 5", list(&additions)),
         Case::new("one list, kind 6", list(&constants)),
         Case::new("join, 124 + 124 lines, mixed", join(&halves)),
+        Case::new("index, all kinds mixed", index(&mixed)),
+        Case::new("index, kinds 1 to 4", index(&cheap)),
+        Case::new("index, kind 5 only", index(&additions)),
+        Case::new("index, all name line 0's word", index(&of_one_word)),
+        Case::new("index, one line", index(&single)),
+        Case::new("report, three of kind 6", report(&three_costly)),
     ];
+    for (name, sheet, line) in of_two_users {
+        cases.extend(changes_with_index(name, sheet, line));
+    }
+    for (name, sheet) in [
+        ("all name line 0's word", &of_one_word),
+        ("one line", &single),
+    ] {
+        let [change, _] = changes_with_index(name, sheet, 0);
+        cases.push(change);
+    }
     let mut long_cases = [
         Case::new("clause text by lists, mixed", text_by_lists(&mixed)),
         Case::new("clause text by lists, kind 5", text_by_lists(&additions)),
@@ -166,6 +197,29 @@ fn main() {
             "",
         );
     }
+    println!();
+    let less_line_l = "(change_indexed - for line L) / report";
+    print_row(less_line_l, "archive", "reference", "at most", "");
+    for (sheet, _, line) in of_two_users {
+        print_bound_less_line_l(&cases, sheet, line);
+    }
+}
+
+/// Prints how long a change of this line takes beside reading and comparing, the report
+/// being the unit, and how long the archive may take at most.
+fn print_bound_less_line_l(cases: &[Case], sheet: &str, line: usize) {
+    let changed = case(cases, "change_indexed", sheet);
+    let line_l = case(cases, "the same for line L", sheet);
+    let report = case(cases, "report", sheet);
+    let archive = median_rest(&changed.archive, &line_l.archive, &report.archive);
+    let reference = median_rest(&changed.reference, &line_l.reference, &report.reference);
+    print_row(
+        &format!("{sheet}, line {line}"),
+        &shown(archive, ratio),
+        &shown(reference, ratio),
+        &ratio(1.0 / 3.0),
+        "",
+    );
 }
 
 /// Prints how long a call on a sheet takes, another call on it being the unit, and
@@ -198,6 +252,8 @@ type Outcome = Result<usize, Refusal>;
 
 type Join = fn(&[u8], &[u8], &[u64], &mut [u8]) -> Outcome;
 
+type ChangeIndexed = fn(&mut [u8], &[u16], &mut [u8], usize, u64) -> Outcome;
+
 type TextPart = fn(&[u8], usize, &mut [u8]) -> Outcome;
 
 /// The calls that are timed, the archive's or the reference's.
@@ -218,6 +274,8 @@ struct Calls {
     change: fn(&mut [u8], usize, u64) -> Outcome,
     trial: fn(&[u8], usize, u64, &mut [u8]) -> Outcome,
     change_all: fn(&mut [u8], &[u64], &mut [u8]) -> Outcome,
+    index: fn(&[u8], &mut [u16]) -> Outcome,
+    change_indexed: ChangeIndexed,
 }
 
 const REFERENCE: Calls = Calls {
@@ -235,6 +293,8 @@ const REFERENCE: Calls = Calls {
     change: reference::change,
     trial: reference::trial,
     change_all: reference::change_all,
+    index: reference::index,
+    change_indexed: reference::change_indexed,
 };
 
 #[cfg(has_archive)]
@@ -253,6 +313,8 @@ const ARCHIVE: Option<Calls> = Some(Calls {
     change: tablegull::slices::change,
     trial: tablegull::slices::trial,
     change_all: tablegull::slices::change_all,
+    index: tablegull::slices::index,
+    change_indexed: tablegull::slices::change_indexed,
 });
 
 #[cfg(not(has_archive))]
@@ -321,6 +383,66 @@ fn single_changes(sheet: &[u8]) -> impl FnMut(Calls) {
             black_box(answer).expect("accepted");
         }
     }
+}
+
+fn index(sheet: &[u8]) -> impl FnMut(Calls) + '_ {
+    let mut out = [0; MAX_INDEX];
+    move |calls| {
+        (calls.index)(black_box(sheet), &mut out).expect("accepted");
+        black_box(&out);
+    }
+}
+
+/// A sheet, and what is kept beside it.
+struct Indexed {
+    sheet: Vec<u8>,
+    index: Vec<u16>,
+    report: Vec<u8>,
+}
+
+impl Indexed {
+    fn of(sheet: &[u8]) -> Indexed {
+        let mut report = vec![0; LINE_REPORT * MAX_LINES];
+        let length = reference::report(sheet, &mut report).expect("accepted");
+        report.truncate(length);
+        Indexed {
+            sheet: sheet.to_vec(),
+            index: index_of(sheet).0,
+            report,
+        }
+    }
+
+    fn change(&mut self, calls: Calls, line: usize, difference: u32) -> Outcome {
+        black_box((calls.change_indexed)(
+            black_box(&mut self.sheet),
+            black_box(&self.index),
+            black_box(&mut self.report),
+            line,
+            difference.into(),
+        ))
+    }
+}
+
+/// Two cases: a line's difference is changed to and fro, and the report with it; and the
+/// same call for a line that there is not, where index and report are compared with the
+/// sheet's own and nothing is changed. Both have the same buffers: in buffers that lie
+/// otherwise to each other a call's time differs by as much as the change itself takes.
+fn changes_with_index<'a>(name: &str, sheet: &[u8], line: usize) -> [Case<'a>; 2] {
+    let kept = Rc::new(RefCell::new(Indexed::of(sheet)));
+    let stated = stated_difference(sheet, line);
+    let case = |call: &str, line: usize, answer: Result<usize, u32>| {
+        let kept = Rc::clone(&kept);
+        let mut difference = stated;
+        Case::new(&format!("{call}, {name}"), move |calls| {
+            difference ^= OLD_DIFFERENCE ^ NEW_DIFFERENCE;
+            let outcome = kept.borrow_mut().change(calls, line, difference);
+            assert_eq!(outcome.map_err(|refusal| refusal.number), answer);
+        })
+    };
+    [
+        case("change_indexed", line, Ok(0)),
+        case("the same for line L", MAX_LINES, Err(17)),
+    ]
 }
 
 /// The report of the last line.
@@ -473,16 +595,16 @@ fn dev_null() -> File {
 }
 
 struct Case<'a> {
-    name: &'static str,
+    name: String,
     work: Box<dyn FnMut(Calls) + 'a>,
     archive: Side,
     reference: Side,
 }
 
 impl<'a> Case<'a> {
-    fn new(name: &'static str, work: impl FnMut(Calls) + 'a) -> Case<'a> {
+    fn new(name: &str, work: impl FnMut(Calls) + 'a) -> Case<'a> {
         Case {
-            name,
+            name: name.into(),
             work: Box::new(work),
             archive: Side::new(ARCHIVE),
             reference: Side::new(Some(REFERENCE)),
@@ -490,7 +612,7 @@ impl<'a> Case<'a> {
     }
 
     /// A case to which the archive has nothing.
-    fn of_reference(name: &'static str, work: impl FnMut(Calls) + 'a) -> Case<'a> {
+    fn of_reference(name: &str, work: impl FnMut(Calls) + 'a) -> Case<'a> {
         Case {
             archive: Side::new(None),
             ..Case::new(name, work)
@@ -511,7 +633,7 @@ impl<'a> Case<'a> {
         let (archive, reference) = (&self.archive.times, &self.reference.times);
         let of_fastest = fastest(archive).zip(fastest(reference)).map(|(a, r)| a / r);
         print_row(
-            self.name,
+            &self.name,
             &shown(median(archive), time),
             &shown(median(reference), time),
             &shown(median_ratio(&self.archive, &self.reference), ratio),
@@ -573,12 +695,19 @@ fn median_ratio(one: &Side, other: &Side) -> Option<f64> {
     median(&rounds.map(|(a, b)| a / b).collect::<Vec<f64>>())
 }
 
+/// The median of what is left of the one's time without another's, divided by a third
+/// one's in the same round.
+fn median_rest(one: &Side, without: &Side, unit: &Side) -> Option<f64> {
+    let rounds = one.times.iter().zip(&without.times).zip(&unit.times);
+    median(&rounds.map(|((a, b), c)| (a - b) / c).collect::<Vec<f64>>())
+}
+
 fn fastest(times: &[f64]) -> Option<f64> {
     times.iter().copied().min_by(f64::total_cmp)
 }
 
 fn print_row(name: &str, archive: &str, reference: &str, ratio: &str, fastest: &str) {
-    let row = format!("{name:<30} {archive:>10} {reference:>10} {ratio:>8} {fastest:>8}");
+    let row = format!("{name:<38} {archive:>10} {reference:>10} {ratio:>8} {fastest:>8}");
     println!("{}", row.trim_end());
 }
 
@@ -676,6 +805,9 @@ fn sheet_of_sums(choices: usize) -> Vec<u8> {
 const OLD_DIFFERENCE: u32 = 0x10;
 const NEW_DIFFERENCE: u32 = 0x70;
 
+/// What sums with the changed word state.
+const OF_SUMS: u32 = 0x30;
+
 /// A sheet of so many lines where every line after the first names the first one's
 /// word. Its sums can happen with the old difference of that word and with the new
 /// one, and in one bit the differences of word and sum are not alike, either way: so
@@ -684,24 +816,81 @@ fn sheet_of_one_word(count: usize) -> Vec<u8> {
     let mut random = Random(3);
     let differences = [OLD_DIFFERENCE, 0, 0, 0, 0, 0, 0, 0];
     let word = differences.len() as u16;
-    let of_sums = 0x30;
     let later = (1..count).map(|line| {
         let other = 1 + (random.word() % 7) as u16;
-        // Bit 0, so that there may be a carry into bit 4 and may be none; of bits 4
-        // and 5 the upper one, so that either carry leads to the sum's difference.
-        let constant = random.word() & !0x10 | 0x21;
+        let constant = constant_for_either(&mut random);
         match line % 6 {
             0 => Line::xor(word, other, OLD_DIFFERENCE),
-            1 => Line::add(word, other, of_sums),
-            2 => Line::add_constant(word, constant, of_sums),
-            3 => Line::add(other, word, of_sums),
+            1 => Line::add(word, other, OF_SUMS),
+            2 => Line::add_constant(word, constant, OF_SUMS),
+            3 => Line::add(other, word, OF_SUMS),
             4 => Line::rotate_left(word, 1, OLD_DIFFERENCE << 1),
-            _ => Line::subtract(word, other, of_sums),
+            _ => Line::subtract(word, other, OF_SUMS),
         }
     });
     let first = Line::add(0, 1, OLD_DIFFERENCE);
     let lines: Vec<Line> = [first].into_iter().chain(later).collect();
     sealed(&differences, &lines)
+}
+
+/// A sheet of full size where two lines use line 0's word. These three add constants,
+/// which is the most work for a report; all others are of kinds 1 to 4, the least. So
+/// of all changes this is one of the longest beside its report.
+fn sheet_of_three_costly() -> Vec<u8> {
+    let mut random = Random(4);
+    let differences = [OLD_DIFFERENCE, 0, 0, 0, 0, 0, 0, 0];
+    let word = differences.len() as u16;
+    // The words that have no difference.
+    let mut quiet: Vec<u16> = (1..word).collect();
+    let lines = (0..MAX_LINES).map(|line| {
+        let constant = constant_for_either(&mut random);
+        let amount = 1 + (random.word() % 31) as u8;
+        let at = random.word() as usize % quiet.len();
+        let (a, b) = (quiet[at], quiet[(at + 1) % quiet.len()]);
+        match line {
+            0 => return Line::add_constant(0, constant, OLD_DIFFERENCE),
+            100 | 200 => return Line::add_constant(word, constant, OF_SUMS),
+            _ => quiet.push(word + line as u16),
+        }
+        match line % 4 {
+            0 => Line::xor(a, b, 0),
+            1 => Line::xor_constant(a, constant, 0),
+            2 => Line::rotate_left(a, amount, 0),
+            _ => Line::rotate_right(a, amount, 0),
+        }
+    });
+    let sheet = sealed(&differences, &lines.collect::<Vec<Line>>());
+    assert_eq!(index_of(&sheet).users(word), Some(&[100, 200][..]));
+    sheet
+}
+
+/// A constant with which the sum can have the difference [`OF_SUMS`] for the old
+/// difference of the word and for the new one.
+fn constant_for_either(random: &mut Random) -> u32 {
+    // Bit 0, so that there may be a carry into bit 4 and may be none; of bits 4 and 5
+    // the upper one, so that either carry leads to the sum's difference.
+    random.word() & !0x10 | 0x21
+}
+
+/// The first line from the middle of a sheet of full size on whose word just two lines
+/// use.
+fn line_of_two_users(sheet: &[u8]) -> usize {
+    let index = index_of(sheet);
+    let has_two = |line: &usize| index.users(8 + *line as u16).map(<[u16]>::len) == Some(2);
+    let mut lines = MAX_LINES / 2..MAX_LINES;
+    lines.find(has_two).expect("a word that two lines use")
+}
+
+fn index_of(sheet: &[u8]) -> Index {
+    let mut numbers = vec![0; MAX_INDEX];
+    let length = reference::index(sheet, &mut numbers).expect("accepted");
+    numbers.truncate(length);
+    Index(numbers)
+}
+
+fn stated_difference(sheet: &[u8], line: usize) -> u32 {
+    let record = &sheet[512 * (1 + line / 31) + 16 * (line % 31)..];
+    u32::from_le_bytes(*record[12..].first_chunk().expect("four bytes"))
 }
 
 /// No line is impossible, and with the new difference in line 0 only such lines are

@@ -69,15 +69,15 @@ pub(super) fn trial(
 }
 
 /// A sheet that has been read, as it would be with another difference in a line.
-struct Tried<'a> {
-    sheet: Sheet<'a>,
-    line: usize,
-    difference: u32,
+pub(super) struct Tried<'a> {
+    pub sheet: Sheet<'a>,
+    pub line: usize,
+    pub difference: u32,
 }
 
 impl Tried<'_> {
     /// The report that a line would have, by its record as it stands in the sheet.
-    fn report(&self, line: usize, mut record: Record) -> LineReport {
+    pub(super) fn report(&self, line: usize, mut record: Record) -> LineReport {
         let changed_word = self.sheet.input_count() + self.line;
         let difference_of = |word: u16| {
             if usize::from(word) == changed_word {
@@ -95,13 +95,13 @@ impl Tried<'_> {
 
 /// What a change is asked by, which no change changes.
 #[derive(Clone, Copy)]
-struct Bounds {
+pub(super) struct Bounds {
     lines: usize,
     mask: u32,
 }
 
 impl Bounds {
-    fn of(sheet: &Sheet) -> Bounds {
+    pub(super) fn of(sheet: &Sheet) -> Bounds {
         Bounds {
             lines: sheet.line_count(),
             mask: sheet.mask(),
@@ -110,7 +110,7 @@ impl Bounds {
 
     /// Is the line number below L? 17. Is the difference below 2^n? 14, place: the
     /// line. Answers the difference, which fits 32 bits then.
-    fn ask(self, line: usize, difference: u64) -> Result<u32, Refusal> {
+    pub(super) fn ask(self, line: usize, difference: u64) -> Result<u32, Refusal> {
         refuse_unless(line < self.lines, 17, 0)?;
         match u32::try_from(difference) {
             Ok(difference) if difference <= self.mask => Ok(difference),

@@ -1,5 +1,5 @@
 //! The trail checker in plain Rust, written from documents 01 and 02; all but
-//! joining, question 23, the texts and changes from these alone.
+//! joining, question 23, the texts, changes and the index from these alone.
 //!
 //! The calls have the signatures and the order of refusals of the archive's
 //! calls in the module `slices`. They share no code with the archive, so that
@@ -10,6 +10,7 @@
 
 mod changing;
 mod clauses;
+mod indexing;
 mod joining;
 mod line_report;
 mod runs;
@@ -149,6 +150,25 @@ pub fn trial(sheet: &[u8], line: usize, difference: u64, out: &mut [u8]) -> Resu
 /// would give it; a refused pair is skipped. Answers the number of pairs.
 pub fn change_all(sheet: &mut [u8], pairs: &[u64], replies: &mut [u8]) -> Result<usize, Refusal> {
     changing::change_all(sheet, pairs, replies)
+}
+
+/// Writes the sheet's index: for each word how many lines name it as a used operand,
+/// and these lines, ascending. Answers the count of numbers written.
+pub fn index(sheet: &[u8], out: &mut [u16]) -> Result<usize, Refusal> {
+    indexing::index(sheet, out)
+}
+
+/// Changes a difference as [`change`] does, and renews the report that is kept beside
+/// the sheet. Index and report have to be the sheet's own. Answers 0.
+pub fn change_indexed(
+    sheet: &mut [u8],
+    index: &[u16],
+    report: &mut [u8],
+    line: usize,
+    difference: u64,
+) -> Result<usize, Refusal> {
+    indexing::change_indexed(sheet, index, report, line, difference)?;
+    Ok(0)
 }
 
 /// Is the line number below L? 17

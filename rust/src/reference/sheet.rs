@@ -1,6 +1,8 @@
 //! The sheet's layout, the questions about it, sealing, and writing with more
 //! lines or with another difference.
 
+use std::iter;
+
 use super::{refuse, refuse_unless};
 use crate::{Refusal, MAX_LINES, MAX_SHEET};
 
@@ -11,7 +13,7 @@ const RECORD: usize = 16;
 const RECORDS_END: usize = LINES_IN_BLOCK * RECORD;
 const DIFFERENCE_IN_RECORD: usize = 12;
 const MARK: [u8; 4] = [0x41, 0x52, 0x58, 0x54];
-const MAX_INPUTS: usize = 8;
+pub(super) const MAX_INPUTS: usize = 8;
 const INPUTS_START: usize = 8;
 const INPUTS_END: usize = INPUTS_START + 4 * MAX_INPUTS;
 
@@ -77,6 +79,15 @@ impl Record {
 
     pub(super) fn names_two_words(&self) -> bool {
         matches!(self.kind, XOR | ADD | SUBTRACT)
+    }
+
+    /// The words that a line of an accepted sheet names, each once. A sheet has at most
+    /// 256, so that their numbers fit 8 bits. With `for_each` they are gone through
+    /// faster than by a loop.
+    pub(super) fn words(&self) -> impl Iterator<Item = u8> {
+        let has_another = self.names_two_words() && self.second != self.first;
+        let another = has_another.then_some(self.second);
+        iter::once(self.first).chain(another).map(|word| word as u8)
     }
 
     fn has_amount(&self) -> bool {

@@ -17,6 +17,12 @@ impl Element for u8 {
     }
 }
 
+impl Element for u16 {
+    fn of(bits: u64) -> u16 {
+        bits as u16
+    }
+}
+
 impl Element for u64 {
     fn of(bits: u64) -> u64 {
         bits

@@ -7,6 +7,7 @@
 pub mod changing;
 pub mod changing_all;
 pub mod damage;
+pub mod indexing;
 pub mod lending;
 pub mod pairs;
 pub mod sealing;
@@ -21,7 +22,9 @@ pub type Outcome = Result<usize, Refusal>;
 
 type Join = fn(&[u8], &[u8], &[u64], &mut [u8]) -> Outcome;
 
-/// The fourteen calls of one implementation.
+type ChangeIndexed = fn(&mut [u8], &[u16], &mut [u8], usize, u64) -> Outcome;
+
+/// The sixteen calls of one implementation.
 #[derive(Clone, Copy)]
 pub struct Calls {
     pub name: &'static str,
@@ -39,6 +42,8 @@ pub struct Calls {
     pub change: fn(&mut [u8], usize, u64) -> Outcome,
     pub trial: fn(&[u8], usize, u64, &mut [u8]) -> Outcome,
     pub change_all: fn(&mut [u8], &[u64], &mut [u8]) -> Outcome,
+    pub index: fn(&[u8], &mut [u16]) -> Outcome,
+    pub change_indexed: ChangeIndexed,
 }
 
 pub const REFERENCE: Calls = Calls {
@@ -57,6 +62,8 @@ pub const REFERENCE: Calls = Calls {
     change: reference::change,
     trial: reference::trial,
     change_all: reference::change_all,
+    index: reference::index,
+    change_indexed: reference::change_indexed,
 };
 
 #[cfg(has_archive)]
@@ -76,6 +83,8 @@ pub const ARCHIVE: Calls = Calls {
     change: tablegull::slices::change,
     trial: tablegull::slices::trial,
     change_all: tablegull::slices::change_all,
+    index: tablegull::slices::index,
+    change_indexed: tablegull::slices::change_indexed,
 };
 
 /// The reference, and the archive where it is there.
@@ -234,6 +243,12 @@ impl Step {
         }
     }
 
+    /// Whether a word is one of the operands that the line uses.
+    pub fn uses(&self, word: usize) -> bool {
+        let second_is_used = matches!(self.kind, 1 | 5 | 9);
+        usize::from(self.first) == word || second_is_used && usize::from(self.second) == word
+    }
+
     /// Whether the line XORs a word with itself.
     pub fn xors_a_word_with_itself(&self) -> bool {
         self.kind == 1 && self.first == self.second
@@ -345,6 +360,26 @@ impl Program {
     pub fn differences(&self) -> Vec<u32> {
         let stated = self.steps.iter().map(|step| step.difference);
         self.inputs.iter().copied().chain(stated).collect()
+    }
+
+    /// The lines that use a word, all lines gone through for it.
+    pub fn users(&self, word: usize) -> Vec<u16> {
+        (0..)
+            .zip(&self.steps)
+            .filter(|(_, step)| step.uses(word))
+            .map(|(line, _)| line)
+            .collect()
+    }
+
+    /// The index: for each word the number of its users, and the users.
+    pub fn index(&self) -> Vec<u16> {
+        let words = 0..self.inputs.len() + self.steps.len();
+        words
+            .flat_map(|word| {
+                let users = self.users(word);
+                [vec![users.len() as u16], users].concat()
+            })
+            .collect()
     }
 
     pub fn run(&self, start: &[u64]) -> Vec<u64> {

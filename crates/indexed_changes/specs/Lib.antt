@@ -1,0 +1,4 @@
+pub mod Renewed
+pub mod IndexedCall
+pub mod Theorem
+pub mod Answered

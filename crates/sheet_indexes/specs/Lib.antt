@@ -1,0 +1,5 @@
+pub mod Users
+pub mod Index
+pub mod Stays
+pub mod IndexCall
+pub mod Answered
