@@ -24,8 +24,8 @@
  *            whatever lies past it in the buffer stays as it was.  Into the
  *            sheet itself write only tablegull_seal, tablegull_change,
  *            tablegull_change_all and tablegull_change_indexed, and only the
- *            bytes that they name below; the last one writes into the report
- *            that it is lent as well.
+ *            bytes that they name below; the last one also writes into the
+ *            report that it is lent, at the lines that it names below.
  *   Refusal: number and place say which question had the answer no, count is
  *            0, and no byte of any lent buffer has changed.
  *
