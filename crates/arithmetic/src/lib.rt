@@ -43,7 +43,7 @@ pub fn subtract(n: u32, x: u64, y: u64) -> u64
 }
 
 // A word of n bits rotated left by r places.
-pub fn rotate_left_lem(n: u32, r: u32, x: u64) -> u64
+pub fn rotate_left(n: u32, r: u32, x: u64) -> u64
     requires { (n ≤ 64) × (1 ≤ r) × (r < n) × (x < 2 ^ n) }
     ensures { result ≡ rotate_left n r x }
 {
@@ -51,11 +51,11 @@ pub fn rotate_left_lem(n: u32, r: u32, x: u64) -> u64
 }
 
 // A word of n bits rotated right by r places.
-pub fn rotate_right_lem(n: u32, r: u32, x: u64) -> u64
+pub fn rotate_right(n: u32, r: u32, x: u64) -> u64
     requires { (n ≤ 64) × (1 ≤ r) × (r < n) × (x < 2 ^ n) }
     ensures { result ≡ rotate_right n r x }
 {
-    rotate_left_lem(n, n - r, x)
+    rotate_left(n, n - r, x)
 }
 
 // A word of n bits shifted left by r places.

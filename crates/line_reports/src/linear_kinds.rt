@@ -3,7 +3,7 @@ ghost use Rattle.std.specs.Prelude.{◌≡◌, ◌≤◌};
 ghost use Rattle.differential.specs.Demand2.{Proper};
 ghost use Rattle.differential.specs.Report.{report_means, certain_if, given_difference};
 
-use arithmetic::{rotate_left_lem, rotate_right_lem, shift_left, shift_right};
+use arithmetic::{rotate_left, rotate_right, shift_left, shift_right};
 use differential::{Differential, LineReport};
 
 // Certain if the stated difference is the one that the operands' differences give, else impossible.
@@ -29,8 +29,8 @@ fn given_difference(d: Differential) -> u64
     match kind {
         1 => d.first ^ d.second,
         2 => d.first,
-        3 => rotate_left_lem(d.width, line.amount, d.first),
-        4 => rotate_right_lem(d.width, line.amount, d.first),
+        3 => rotate_left(d.width, line.amount, d.first),
+        4 => rotate_right(d.width, line.amount, d.first),
         7 => shift_left(d.width, line.amount, d.first),
         8 => shift_right(line.amount, d.first),
         _ => 0,

@@ -15,7 +15,7 @@ pub fn is_listed(list: &[u64], count: usize, line: Line) -> bool
     let numbers = numbers_of(line);
     let mut i = 0;
     while i < count {
-        if stands_at_lem(list, LINE_NUMBERS * i, &numbers) {
+        if stands_at(list, LINE_NUMBERS * i, &numbers) {
             return true;
         }
         i += 1;
@@ -24,7 +24,7 @@ pub fn is_listed(list: &[u64], count: usize, line: Line) -> bool
 }
 
 // Whether a line's numbers stand in the list at a position.
-fn stands_at_lem(list: &[u64], at: usize, numbers: &[u64]) -> bool
+fn stands_at(list: &[u64], at: usize, numbers: &[u64]) -> bool
     requires { (length numbers.now ≡ line_numbers) × (at + line_numbers ≤ length list.now) }
     ensures { result ≡ stands_at list.now at numbers.now }
 {
