@@ -21,14 +21,14 @@ const OUTPUT_BYTES: usize = 65536;
 const PART_BYTES: usize = 34608;
 
 // The report of every line and the totals, or the clauses of all lines after their header.
-#[derive(Drop)]
+#[derive(Clone, Copy)]
 pub enum Text {
     Report,
     Clauses,
 }
 
 // How many bytes are gathered; or that the text has ended, as a write failed.
-#[derive(Drop)]
+#[derive(Clone, Copy)]
 enum Gathered {
     Bytes(usize),
     Ended,

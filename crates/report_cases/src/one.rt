@@ -11,7 +11,7 @@ use report::LineAnswer;
 
 // The report, the number of operand values that fit, and whether the two agree; or that there is no report, or that there
 // are too many operand values to count.
-#[derive(Drop)]
+#[derive(Clone, Copy)]
 pub enum Outcome {
     Reported(LineReport, u64, bool),
     Refused(Refusal),

@@ -3,7 +3,7 @@ use case_text::print::{print, print_number};
 use differential::{LineReport, WholeBits};
 use units::in_sixteenths;
 
-#[derive(Drop)]
+#[derive(Clone, Copy)]
 pub struct Row {
     pub number: u64,
     pub weight: u64,
