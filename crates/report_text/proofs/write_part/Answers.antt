@@ -1,0 +1,22 @@
+-- The part is made aside, where it always has room, and put where there is room for it.
+use native.Mathlib.Omega.{arith}
+use Rattle.buffers.proofs.Appending.{wrote_taken}
+use Rattle.report_file.proofs.Parts.{parts_are_within}
+use Rattle.report_text.proofs.write_part.Goals as goal
+
+pub returns : goal.returns
+returns c =
+    let read = c.requires.0 in
+    rw (← wrote_taken (parts_are_within c.args.sheet.now read.accepted c.args.part (omega (arith, read.lines)))
+    c.put_report_part-bytes.ensures)
+    c.put_part.ensures
+
+part-put-part-end : tie.Need-slice-bounds-put-part-end
+part-put-part-end c =
+    let start = c.before.before.before.before.before.before.before in
+    let read = start.requires.0 in
+    omega (
+      arith,
+      parts_are_within start.args.sheet.now read.accepted start.args.part (omega (arith, read.lines)),
+      c.before.before.before.put-report-part.ensures.next,
+    )
