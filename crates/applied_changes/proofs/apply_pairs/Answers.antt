@@ -14,7 +14,7 @@ pub loop-i-preserved : goal.loop-i-preserved
 loop-i-preserved c =
     let call = c.apply_pair in (
       search rules,
-      call.auto.0 ∙ c.loop-i.invariant.1,
+      call.auto.sheet ∙ c.loop-i.invariant.1,
       search rules,
       replied_next _ _ _ c.loop-i.invariant.3 (search rules) refl refl call.ensures.0 call.ensures.1 refl,
     )

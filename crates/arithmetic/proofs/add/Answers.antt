@@ -7,5 +7,5 @@ use Rattle.arithmetic.proofs.add.Goals as goal
 pub returns : goal.returns
 unfolding sum_modulo
 returns c =
-    rw (c.wrapping_add_u64.ensures, c.mask.ensures)
+    rw (c.wrapping_add_u64.ensures.value, c.mask.ensures)
     (and_ones 64 c.args.n (c.args.x + c.args.y) (omega arith))

@@ -2,7 +2,7 @@
 use Rattle.std.proofs.Common.{◌*◌, ◌^◌, arith}
 use Rattle.words.proofs.Masks.{and_ones}
 use Rattle.words.proofs.Rotations.{or_rotate_left}
-use Rattle.arithmetic.proofs.rotate_left_lem.Goals as goal
+use Rattle.arithmetic.proofs.rotate_left.Goals as goal
 
 pub returns : goal.returns
 returns c =

@@ -1,7 +1,7 @@
 -- `rotate_right_lem` by r is `rotate_left_lem` by n - r.
 use Rattle.std.proofs.Common.{sym, ◌∙◌, arith}
 use Rattle.words.proofs.Rotations.{rotate_right_left}
-use Rattle.arithmetic.proofs.rotate_right_lem.Goals as goal
+use Rattle.arithmetic.proofs.rotate_right.Goals as goal
 
 pub returns : goal.returns
 returns c =

@@ -8,4 +8,4 @@ pub returns : goal.returns
 returns c =
     let a = c.args in
     let r = c.wrapping_sub_u64.result in
-    rw c.mask.ensures (and_mask r a.n ∙ minus_wrapped 64 a.n a.x a.y r (omega arith) c.wrapping_sub_u64.ensures)
+    rw c.mask.ensures (and_mask r a.n ∙ minus_wrapped 64 a.n a.x a.y r (omega arith) c.wrapping_sub_u64.ensures.value)

@@ -42,8 +42,8 @@ loop-i-preserved c =
     let h = c.loop-i in
     let put = c.put_report-next in
     let is = c.report.ensures ∙ ap report_of c.changed_differential-differential.ensures in
-    let written = subst (λ (r : Report). Wrote h.next (report_bytes r) h.out put.result put.new.0) is put.ensures in
-    (search rules, put.auto.0 ∙ h.invariant.1, reports_next (line_report (with_difference (trail_of a.sheet.now) a.k a.difference)) h.i (omega arith) h.invariant.2 written)
+    let written = subst (λ (r : Report). Wrote h.next (report_bytes r) h.out put.result put.new.out) is put.ensures in
+    (search rules, put.auto.out ∙ h.invariant.1, reports_next (line_report (with_difference (trail_of a.sheet.now) a.k a.difference)) h.i (omega arith) h.invariant.2 written)
 
 pub returns : goal.returns
 unfolding sheet_bytes

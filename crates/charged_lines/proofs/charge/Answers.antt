@@ -31,7 +31,7 @@ returns-then-costs c =
     let part : List ℕ = take size (drop at s) in
     let made = c.numbers_of-numbers in
     let numbers : made.result ≡ new = made.ensures in
-    let whole : c.put_all.new.0 ≡ new = c.put_all.ensures.now_is ∙ overwrite_all _ part (ap length numbers ∙ sym (part_length at s c.requires)) ∙ numbers in
+    let whole : c.put_all.new.out ≡ new = c.put_all.ensures.now_is ∙ overwrite_all _ part (ap length numbers ∙ sym (part_length at s c.requires)) ∙ numbers in
     rw (sym c.costs.ensures ∙ c.if-costs.true)
     (refl, ap (put_mid at size s) whole ∙ overwrite_part at size s new (omega arith), ap (λ (i : ℕ). set a.marks.now i 1) c.mark_of-mark.ensures.0)
 

@@ -25,7 +25,6 @@ returns c =
     )
     c.write_list.ensures
 
-part-write-list-end : tie.Need-slice-bounds-write-list-end
-part-write-list-end c =
-    let start = c.before.before.before.before.before.before.before in
-    omega (arith, list_most start.requires.0 start.args.k start.requires.1, c.before.before.before.put-line.ensures.next)
+pub slice_bounds-write_list-end : goal.slice_bounds-write_list-end
+slice_bounds-write_list-end c =
+    omega (arith, list_most c.requires.0 c.args.k c.requires.1, c.put_line.ensures.next)

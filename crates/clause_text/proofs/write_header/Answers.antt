@@ -17,7 +17,6 @@ returns c =
     )
     c.put_part.ensures
 
-part-put-part-end : tie.Need-slice-bounds-put-part-end
-part-put-part-end c =
-    let start = c.before.before.before.before.before.before.before.before in
-    omega (arith, header_most start.requires c.before.before.before.before.both-counts.ensures, c.before.before.before.put-header.ensures.next)
+pub slice_bounds-put_part-end : goal.slice_bounds-put_part-end
+slice_bounds-put_part-end c =
+    omega (arith, header_most c.requires c.both_counts.ensures, c.put_header.ensures.next)

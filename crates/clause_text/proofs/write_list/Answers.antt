@@ -26,7 +26,6 @@ returns c =
     rw (← wrote_taken (omega (arith, text_within 4 c.args.list.now c.requires.0))
     c.put_list-bytes-2.ensures) c.put_part.ensures
 
-part-put-part-end : tie.Need-slice-bounds-put-part-end
-part-put-part-end c =
-    let start = c.before.before.before.before.before.before.before in
-    omega (arith, text_within 4 start.args.list.now start.requires.0, c.before.before.before.put-list2.ensures.next)
+pub slice_bounds-put_part-end : goal.slice_bounds-put_part-end
+slice_bounds-put_part-end c =
+    omega (arith, text_within 4 c.args.list.now c.requires.0, c.put_list-2.ensures.next)

@@ -31,7 +31,7 @@ loop-i-preserved c =
     let a = c.args in
     let h = c.loop-i in
     let put = c.put_bit-next in
-    (omega arith, put.auto.0 ∙ h.invariant.1, rows_next (clauses_of_bit a.run) a.run.width a.at a.out.now c.requires.1 h.i h.next _ h.out _ (omega arith) h.invariant.2 put.ensures)
+    (omega arith, put.auto.out ∙ h.invariant.1, rows_next (clauses_of_bit a.run) a.run.width a.at a.out.now c.requires.1 h.i h.next _ h.out _ (omega arith) h.invariant.2 put.ensures)
 
 pub shape_of-out : goal.shape_of-out
 shape_of-out c = c.loop-i.invariant.1

@@ -18,5 +18,5 @@ both_counts-counts-requires c = search calling depth 12
 pub returns : goal.returns
 returns c =
     let put = c.put_all in
-    let wrote = subst (λ (n : Counts). Wrote 0 (counts_numbers n) c.args.out.now put.result put.new.0) c.both_counts-counts.ensures put.ensures in
+    let wrote = subst (λ (n : Counts). Wrote 0 (counts_numbers n) c.args.out.now put.result put.new.out) c.both_counts-counts.ensures put.ensures in
     c_written _ _ _ c.counted.ensures wrote (search calling depth 12)

@@ -12,7 +12,7 @@ pub put_decimal-requires : goal.put_decimal-requires
 put_decimal-requires c = rw length-set (omega (arith, length_spaced c.args.value))
 
 pub shape_of-out : goal.shape_of-out
-shape_of-out c = c.put_decimal.auto.0 ∙ simp length-set
+shape_of-out c = c.put_decimal.auto.out ∙ simp length-set
 
 pub returns : goal.returns
 returns c = spaced_wrote _ c.requires c.put_decimal.ensures

@@ -10,7 +10,7 @@ put_short-low-requires c =
 pub put_pair-requires : goal.put_pair-requires
 put_pair-requires c =
     let short = c.put_short-low in
-    (c.requires.0, omega arith, omega (arith, length_hundreds c.args.value (omega arith), short.auto.0, short.ensures.next))
+    (c.requires.0, omega arith, omega (arith, length_hundreds c.args.value (omega arith), short.auto.out, short.ensures.next))
 
 pub returns-then-value-lt10000 : goal.returns-then-value-lt10000
 returns-then-value-lt10000 c =
@@ -24,7 +24,7 @@ put_short-middle-requires c =
 pub put_pair-low-requires : goal.put_pair-low-requires
 put_pair-low-requires c =
     let short = c.put_short-middle in
-    (c.requires.0, omega arith, omega (arith, length_ten_thousands c.args.value (omega arith), short.auto.0, short.ensures.next))
+    (c.requires.0, omega arith, omega (arith, length_ten_thousands c.args.value (omega arith), short.auto.out, short.ensures.next))
 
 pub put_pair-requires-2 : goal.put_pair-requires-2
 put_pair-requires-2 c =
@@ -32,7 +32,7 @@ put_pair-requires-2 c =
     let pair = c.put_pair-low in (
       c.requires.0,
       omega arith,
-      omega (arith, length_ten_thousands c.args.value (omega arith), short.auto.0, short.ensures.next, pair.auto.0, pair.ensures.next),
+      omega (arith, length_ten_thousands c.args.value (omega arith), short.auto.out, short.ensures.next, pair.auto.out, pair.ensures.next),
     )
 
 pub returns : goal.returns

@@ -28,5 +28,5 @@ pub returns : goal.returns
 returns c =
     let a = c.args in
     let put = c.put_pair in
-    subst (λ (text : List ℕ). Wrote a.at text a.out.now put.result put.new.0)
+    subst (λ (text : List ℕ). Wrote a.at text a.out.now put.result put.new.out)
     (sym (both_digits a.value (omega arith) (omega arith))) put.ensures

@@ -58,12 +58,12 @@ loop-inputs-preserved c =
     let h = c.loop-inputs in
     let put = c.put_clause-next in
     let wrote =
-    subst (λ (row : ℕ). Wrote h.next (numbers (clause_of a.lits.now row ∷ [])) h.out put.result put.new.0)
+    subst (λ (row : ℕ). Wrote h.next (numbers (clause_of a.lits.now row ∷ [])) h.out put.result put.new.out)
     c.wrong_row.ensures put.ensures in (
       omega arith,
       h.invariant.1,
       h.invariant.2,
-      put.auto.0 ∙ h.invariant.3,
+      put.auto.out ∙ h.invariant.3,
       rows_next (wrong_clause a.lits.now a.table) (2 ^ (a.count - 1)) a.at a.out.now
           (room a.lits.now a.count a.table c.requires.0 c.requires.1 a.at a.out.now c.requires.4)
           h.inputs h.next _ h.out _ (omega arith) h.invariant.4 wrote,

@@ -19,5 +19,5 @@ pub returns : goal.returns
 unfolding lines_right
 returns c = rw c.records_in_block-records.ensures (search testing depth 8)
 
-div-result : tie.Need-nonzero-div-result
-div-result c = omega (arith, (sizes c.before.before.before.before.before.args.header.form).records_least)
+pub nonzero_div-result : goal.nonzero_div-result
+nonzero_div-result c = omega (arith, (sizes c.args.header.form).records_least)

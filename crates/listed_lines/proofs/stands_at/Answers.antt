@@ -10,7 +10,7 @@ use lib.ListN.{length, get_or}
 use Rattle.words.specs.Below.{all}
 use Rattle.words.proofs.Below.{all_none, all_next, all_fails}
 use Rattle.listed_lines.specs.Listed.{stands_at}
-use Rattle.listed_lines.proofs.stands_at_lem.Goals as goal
+use Rattle.listed_lines.proofs.stands_at.Goals as goal
 
 abbrev same : List ℕ → ℕ → List ℕ → ℕ → Bool
 same s at numbers j = eqb (get_or s (at + j) 0) (get_or numbers j 0)

@@ -7,7 +7,7 @@ use lib.Dec.{eqb}
 use lib.ListN.{get_or}
 use Rattle.words.specs.Below.{all}
 use Rattle.listed_lines.specs.Listed.{line_numbers}
-use Rattle.listed_lines.proofs.stands_at_lem.Given as goal
+use Rattle.listed_lines.proofs.stands_at.Given as goal
 
 abbrev same : List ℕ → ℕ → List ℕ → ℕ → Bool
 same s at numbers j = eqb (get_or s (at + j) 0) (get_or numbers j 0)

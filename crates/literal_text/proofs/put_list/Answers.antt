@@ -35,7 +35,7 @@ loop-i-preserved c =
     to_z-of_z {z = get_or list here.i (pos 0)} (record { sfits = c.number-1.given }) in (
       search rules,
       left_take (text_next list here.i (omega arith)) here.invariant.1
-          (subst (λ (z : ℤ). Wrote here.next (number_text z) here.out put.result put.new.0) e put.ensures),
+          (subst (λ (z : ℤ). Wrote here.next (number_text z) here.out put.result put.new.out) e put.ensures),
     )
 
 pub shape_of-out : goal.shape_of-out

@@ -25,7 +25,7 @@ put_quick-requires c =
     )
 
 pub shape_of-out-then-literal-lt0 : goal.shape_of-out-then-literal-lt0
-shape_of-out-then-literal-lt0 c = c.put_quick.auto.0 ∙ simp length-set
+shape_of-out-then-literal-lt0 c = c.put_quick.auto.out ∙ simp length-set
 
 pub returns-then-literal-lt0 : goal.returns-then-literal-lt0
 returns-then-literal-lt0 c =
@@ -45,6 +45,6 @@ returns c =
     let size : c.magnitude-variable.result ≡ nat_abs c.args.literal =
     c.magnitude-variable.ensures ∙ ap nat_abs (to_z-of_z c.ranges.literal) in
     let put = c.put_quick-2 in
-    subst (λ (t : List ℕ). Wrote c.args.at t c.args.out.now put.result put.new.0)
+    subst (λ (t : List ℕ). Wrote c.args.at t c.args.out.now put.result put.new.out)
     (ap decimal size ∙ sym (has_none c.args.literal c.ranges.literal c.if-literal-lt0.false))
     put.ensures

@@ -10,15 +10,6 @@ use Rattle.dimacs.specs.Text.{literal_text}
 use Rattle.literal_text.proofs.Writing.{is_zero, is_literal, zero_wrote, literal_room, blank_room, blank_wrote}
 use Rattle.literal_text.proofs.put_number.Goals as goal
 
-put : (c : tie.After-slice-known2) → Wrote c.before.before.before.before.before.before.before.args.at
-    (literal_text c.before.before.before.before.before.before.before.args.number)
-    c.before.before.before.before.before.before.before.args.out.now c.before.before.put-literal.result c.before.before.put-literal.new.0
-put c =
-    let start = c.before.before.before.before.before.before.before in
-    let call = c.before.before.put-literal in
-    subst (λ (z : ℤ). Wrote start.args.at (literal_text z) start.args.out.now call.result call.new.0)
-    (to_z-of_z start.ranges.number) call.ensures
-
 pub bounds-out-at : goal.bounds-out-at
 bounds-out-at c =
     omega (arith, ap length (is_zero c.args.number c.ranges.number c.if-number-eq0.true))
@@ -38,13 +29,20 @@ put_literal-next-requires c =
 
 pub bounds-out-next : goal.bounds-out-next
 bounds-out-next c =
-    blank_room (literal_text c.args.number) c.args.at c.args.out.now (is_literal c.args.number c.if-number-eq0.false) c.requires.2 (put c)
+    let put = subst (λ (z : ℤ). Wrote c.args.at (literal_text z) c.args.out.now c.put_literal-next.result c.put_literal-next.new.out)
+      (to_z-of_z c.ranges.number) c.put_literal-next.ensures in
+    blank_room (literal_text c.args.number) c.args.at c.args.out.now (is_literal c.args.number c.if-number-eq0.false) c.requires.2 put
 
 pub overflow_add-result-2 : goal.overflow_add-result-2
 overflow_add-result-2 c =
-    let room : c.put_literal-next.result < length c.put_literal-next.new.0 = slice-write-out-3 c in
-    omega (arith, c.put_literal-next.auto.0)
+    let put = subst (λ (z : ℤ). Wrote c.args.at (literal_text z) c.args.out.now c.put_literal-next.result c.put_literal-next.new.out)
+      (to_z-of_z c.ranges.number) c.put_literal-next.ensures in
+    let room : c.put_literal-next.result < length c.put_literal-next.new.out =
+      blank_room (literal_text c.args.number) c.args.at c.args.out.now (is_literal c.args.number c.if-number-eq0.false) c.requires.2 put in
+    omega (arith, c.put_literal-next.auto.out)
 
 pub returns : goal.returns
 returns c =
-    blank_wrote (literal_text c.args.number) c.args.at c.args.out.now (is_literal c.args.number c.if-number-eq0.false) c.requires.2 (put c)
+    let put = subst (λ (z : ℤ). Wrote c.args.at (literal_text z) c.args.out.now c.put_literal-next.result c.put_literal-next.new.out)
+      (to_z-of_z c.ranges.number) c.put_literal-next.ensures in
+    blank_wrote (literal_text c.args.number) c.args.at c.args.out.now (is_literal c.args.number c.if-number-eq0.false) c.requires.2 put

@@ -32,8 +32,8 @@ loop-k-preserved c =
     let h = c.loop-k in
     let put = c.put_report-next in
     let s = c.args.sheet.now in
-    let written = subst (λ (r : Report). Wrote h.next (report_bytes r) h.out put.result put.new.0) c.report_at.ensures put.ensures in
-    (search rules, put.auto.0 ∙ h.invariant.1, reports_next (line_report (trail_of s)) h.k (omega arith) h.invariant.2 written)
+    let written = subst (λ (r : Report). Wrote h.next (report_bytes r) h.out put.result put.new.out) c.report_at.ensures put.ensures in
+    (search rules, put.auto.out ∙ h.invariant.1, reports_next (line_report (trail_of s)) h.k (omega arith) h.invariant.2 written)
 
 pub returns : goal.returns
 unfolding sheet_bytes

@@ -25,5 +25,5 @@ put_report-requires c = (c.if-out-lt-REPORT_BYTES.false, search reporting depth 
 pub returns : goal.returns
 returns c =
     let put = c.put_report in
-    let wrote = subst (λ (r : Report). Wrote 0 (report_bytes r) c.args.out.now put.result put.new.0) c.report_at.ensures put.ensures in
+    let wrote = subst (λ (r : Report). Wrote 0 (report_bytes r) c.args.out.now put.result put.new.out) c.report_at.ensures put.ensures in
     c_written _ _ _ c.counted.ensures wrote (search reporting depth 12)

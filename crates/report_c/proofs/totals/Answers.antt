@@ -19,5 +19,5 @@ pub returns : goal.returns
 returns c =
     let sums = c.sum_reports-sums.ensures in
     let put = c.put_all in
-    let wrote = subst (λ (t : Sums). Wrote 0 (totals_numbers t) c.args.out.now put.result put.new.0) sums put.ensures in
+    let wrote = subst (λ (t : Sums). Wrote 0 (totals_numbers t) c.args.out.now put.result put.new.out) sums put.ensures in
     c_written _ _ _ c.counted.ensures wrote (search calling depth 12)

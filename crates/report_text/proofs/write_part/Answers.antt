@@ -11,12 +11,11 @@ returns c =
     c.put_report_part-bytes.ensures)
     c.put_part.ensures
 
-part-put-part-end : tie.Need-slice-bounds-put-part-end
-part-put-part-end c =
-    let start = c.before.before.before.before.before.before.before in
-    let read = start.requires.0 in
+pub slice_bounds-put_part-end : goal.slice_bounds-put_part-end
+slice_bounds-put_part-end c =
+    let read = c.requires.0 in
     omega (
       arith,
-      parts_are_within start.args.sheet.now read.accepted start.args.part (omega (arith, read.lines)),
-      c.before.before.before.put-report-part.ensures.next,
+      parts_are_within c.args.sheet.now read.accepted c.args.part (omega (arith, read.lines)),
+      c.put-report-part.ensures.next,
     )

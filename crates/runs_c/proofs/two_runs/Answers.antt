@@ -25,5 +25,5 @@ run_lines-requires c = search running depth 14
 pub returns : goal.returns
 returns c =
     let put = c.put_outcome in
-    let wrote = subst (λ (o : Outcome). Wrote 0 (outcome_numbers o) c.args.out.now put.result put.new.0) c.run_lines.ensures put.ensures in
+    let wrote = subst (λ (o : Outcome). Wrote 0 (outcome_numbers o) c.args.out.now put.result put.new.out) c.run_lines.ensures put.ensures in
     c_written _ _ _ c.counted.ensures wrote (search running depth 14)

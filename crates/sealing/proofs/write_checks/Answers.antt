@@ -14,7 +14,7 @@ loop-b-preserved c =
     let h = c.loop-b in
     let put = c.put_number in
     let check = c.block_check-check.ensures in
-    (search rules, put.auto.0 ∙ h.invariant.1, put.ensures.now_is ∙ checks_next _ _ _ _ (omega arith) h.invariant.2 check)
+    (search rules, put.auto.s ∙ h.invariant.1, put.ensures.now_is ∙ checks_next _ _ _ _ (omega arith) h.invariant.2 check)
 
 pub returns : goal.returns
 returns c =

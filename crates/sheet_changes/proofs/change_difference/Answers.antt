@@ -23,7 +23,7 @@ put_number-requires c =
 pub number_sum-new-requires : goal.number_sum-new-requires
 number_sum-new-requires c =
     let there = numbers_there c.requires.0 c.args.difference c.requires.1 c.record_position.ensures c.word_bytes-word.ensures in
-    omega (arith, c.put_number.auto.0)
+    omega (arith, c.put_number.auto.s)
 
 pub overflow_add-k : goal.overflow_add-k
 overflow_add-k c =
@@ -32,7 +32,7 @@ overflow_add-k c =
 pub renew_check-requires : goal.renew_check-requires
 renew_check-requires c =
     let there = block_there c.requires.0 c.args.difference c.requires.1 c.records_in_block.ensures in (
-      omega (arith, c.put_number.auto.0),
+      omega (arith, c.put_number.auto.s),
       there.1,
       check_asked c.requires.0 c.args.difference c.requires.1
           c.record_position.ensures
@@ -52,7 +52,5 @@ returns c =
     c.put_number.ensures.now_is
     c.renew_check.ensures
 
-div-renew-check : tie.Need-nonzero-div-renew-check
-div-renew-check c =
-    let start = c.before.before.before.before.before.before.before.before.before.before.before.before.before in
-    omega (arith, (sizes start.args.header.form).records_least, c.records_in_block_lem.ensures)
+pub nonzero_div-k : goal.nonzero_div-k
+nonzero_div-k c = omega (arith, (sizes c.args.header.form).records_least)

@@ -32,8 +32,8 @@ pub returns : goal.returns
 unfolding record_position
 returns c = rw (c.record_bytes.ensures, c.records_in_block-records.ensures)
 
-div-result : tie.Need-nonzero-div-result
-div-result c = omega (arith, (sizes c.before.args.header.form).records_least)
+pub nonzero_div-result : goal.nonzero_div-result
+nonzero_div-result c = omega (arith, (sizes c.args.header.form).records_least)
 
-rem-result : tie.Need-nonzero-rem-result
-rem-result c = omega (arith, (sizes c.before.before.args.header.form).records_least)
+pub nonzero_rem-result : goal.nonzero_rem-result
+nonzero_rem-result c = omega (arith, (sizes c.args.header.form).records_least)

@@ -16,5 +16,5 @@ returns c =
     let lines = c.args.lines in
     ap (λ (n : ℕ). (lines + (n - 1)) / n) c.records_in_block-records.ensures
 
-div-result : tie.Need-nonzero-div-result
-div-result c = omega (arith, (sizes c.before.args.form).records_least)
+pub nonzero_div-result : goal.nonzero_div-result
+nonzero_div-result c = omega (arith, (sizes c.args.form).records_least)

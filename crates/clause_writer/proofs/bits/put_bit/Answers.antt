@@ -56,9 +56,9 @@ loop-j-preserved c =
     let table = c.output_table-table in
     let put = c.put_output-next in
     let tied = output_tied a.run a.i there h.j table.result table.ensures output.0 in
-    let wrote = subst (λ (ns : List ℤ). Wrote h.next ns h.out put.result put.new.0) tied put.ensures in (
+    let wrote = subst (λ (ns : List ℤ). Wrote h.next ns h.out put.result put.new.out) tied put.ensures in (
       omega arith,
-      put.auto.0 ∙ h.invariant.1,
+      put.auto.out ∙ h.invariant.1,
       rows_next (clauses_of_output a.run a.i) (outputs_of a.run a.i) a.at a.out.now
           (room a.run a.i a.at a.out.now c.requires.2) h.j h.next _ h.out _ (omega (arith, count)) h.invariant.2 wrote,
     )

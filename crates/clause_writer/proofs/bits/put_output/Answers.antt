@@ -36,5 +36,5 @@ returns c =
     let a = c.args in
     let put = c.put_gate in
     let lits = c.with-all.ensures.are in
-    subst (λ (ls : List ℤ). Wrote a.at (numbers (table_gate ls a.table)) a.out.now put.result put.new.0)
+    subst (λ (ls : List ℤ). Wrote a.at (numbers (table_gate ls a.table)) a.out.now put.result put.new.out)
     (lits ∙ ap (λ (z : ℤ). gathered a.inputs ++ (z ∷ [])) (same a.output c.requires.1)) put.ensures

@@ -59,7 +59,7 @@ loop-j-preserved c =
     let put = c.put_record-next in
     let line = c.joined_line_at-line.ensures ∙ ap (λ (n : ℕ). line_at t (n * a.i + h.j)) c.records_in_block-records.ensures in (
       search rules,
-      put.auto.0 ∙ h.invariant.1,
+      put.auto.out ∙ h.invariant.1,
       pieces_next (piece f t a.i) (record_bytes f) (piece_length f t a.i) h.j (omega (arith, record_ends f h.j (omega arith))) h.invariant.2
           (rw line at put.ensures),
     )

@@ -29,7 +29,7 @@ loop-i-preserved c =
     let h = c.loop-i in
     let put = c.put_line_block-next in (
       search rules,
-      put.auto.1.1.1.1.1.1.0 ∙ h.invariant.1,
+      put.auto.out.1.1.1.1.1.0 ∙ h.invariant.1,
       pieces_next (line_block a.a.form t) 512 (line_block_length a.a.form t) h.i (omega arith) h.invariant.2 put.ensures,
     )
 

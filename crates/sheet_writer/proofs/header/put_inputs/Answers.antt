@@ -38,7 +38,7 @@ loop-j-preserved c =
     let s = c.args.sheet.now in
     let p = c.args.header in (
       search rules,
-      put.auto.0 ∙ h.invariant.1,
+      put.auto.s ∙ h.invariant.1,
       pieces_next (input s p) (word_bytes p.form) (input_length s p) h.j
           (omega (arith, input_inside p.form h.j (omega arith))) h.invariant.2
           (rw (c.word_bytes-word.ensures, c.input_at.ensures) at put.ensures),
