@@ -17,7 +17,7 @@ pub returns-then-value-lt10 : goal.returns-then-value-lt10
 returns-then-value-lt10 c =
     let a = c.args in
     subst (λ (text : List ℕ). Wrote a.at text a.out.now (a.at + 1) (set a.out.now a.at (48 + a.value)))
-    (sym (small a.value (omega arith))) (wrote_set a.at (48 + a.value) a.out.now (slice-write-out c))
+    (sym (small a.value (omega arith))) (wrote_set a.at (48 + a.value) a.out.now (bounds-out-at c))
 
 pub put_pair-requires : goal.put_pair-requires
 put_pair-requires c =

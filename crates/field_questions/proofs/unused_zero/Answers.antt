@@ -30,7 +30,7 @@ unfolding rest kind_of
 returns-in-1 c =
     let l = c.args.line in
     let zero = asks l c.if-line-ne0.false in
-    let is = at_keys (λ q. rest l q ≡ (eqb l.amount 0 && eqb l.constant 0)) (numbers_with uses_second) l.kind c.in-1.keys1 (refl, (refl, (refl, tt))) in
+    let is = at_keys (λ q. rest l q ≡ (eqb l.amount 0 && eqb l.constant 0)) (numbers_with uses_second) l.kind c.in-1.is (refl, (refl, (refl, tt))) in
     c.both_zero.ensures ∙ sym (zero ∙ is)
 
 pub returns-in-3-to-4 : goal.returns-in-3-to-4
@@ -47,7 +47,7 @@ unfolding rest kind_of
 returns-in_default c =
     let l = c.args.line in
     let zero = asks l c.if-line-ne0.false in
-    let no_word = second_unused l.kind c.in_default-1.rest.1 in
+    let no_word = second_unused l.kind c.in_default-1.in_default-1-own.rest.1 in
     let outside = c.in_default.branch in
     let no-amount = amount_unused l.kind (λ h. ⊎_elim (λ w. omega arith) (⊎_elim (λ w. omega arith) (λ w. omega arith)) outside) (λ h. ⊎_elim (λ w. omega arith) (⊎_elim (λ w. omega arith) (λ w. omega arith)) outside) in
     let some = every_kind (λ q. uses_second q || (uses_amount q || uses_constant q)) refl l.kind (omega arith) (omega arith) in

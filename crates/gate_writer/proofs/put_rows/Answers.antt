@@ -1,13 +1,27 @@
 use native.Mathlib.Omega.{arith}
-use mathlib.Core.Path.{◌≡◌, refl, ◌∙◌, subst}
-use mathlib.Core.List.{[], ◌∷◌}
-use Prim.Native.Nat.{ℕ, ◌-◌, ◌^◌}
+use mathlib.Core.Path.{◌≡◌, refl, ap, ◌∙◌, subst}
+use mathlib.Core.List.{List, [], ◌∷◌}
+use Prim.Native.Nat.{ℕ, ◌+◌, ◌-◌, ◌^◌, ◌≤◌}
+use lib.ListN.{length}
+use lib.IntN.{ℤ}
+use Rattle.words.specs.Below.{concat}
 use Rattle.buffers.specs.Overwrite.{Wrote}
 use Rattle.cnf.specs.Formulas.{numbers}
 use Rattle.cnf.specs.Gates.{clause_of}
-use Rattle.gate_writer.proofs.Tables.{wrong_clause}
+use Rattle.gate_writer.specs.Tables.{table_gate}
+use Rattle.gate_writer.proofs.Tables.{wrong_clause, table_pairs}
 use Rattle.gate_writer.proofs.Writing.{rows_start, row_fits, rows_next, rows_le, rows_are}
 use Rattle.gate_writer.proofs.put_rows.Goals as goal
+
+module _ (lits : List ℤ) (count table : ℕ) (e : length lits ≡ count) (some : 1 ≤ count) where
+  -- the gate is the clauses of the inputs' rows
+  pairs : table_gate lits table ≡ concat (2 ^ (count - 1)) (wrong_clause lits table)
+  pairs = table_pairs lits table (omega arith) ∙ ap (λ (n : ℕ). concat (2 ^ (n - 1)) (wrong_clause lits table)) e
+
+  -- room for it is room for them
+  room : (at : ℕ) (out : List ℤ) → at + length (numbers (table_gate lits table)) ≤ length out
+      → at + length (numbers (concat (2 ^ (count - 1)) (wrong_clause lits table))) ≤ length out
+  room at out h = rw pairs at h
 
 pub overflow_sub-rows : goal.overflow_sub-rows
 overflow_sub-rows c = c.requires.1

@@ -20,13 +20,13 @@ bounds-counts-first c =
     omega (arith, first_word read c.loop-i.i c.loop-i-test.true c.line_at-line.ensures, words_most read)
 
 pub offset_bounds-counts-first : goal.offset_bounds-counts-first
-offset_bounds-counts-first c = omega (arith, element-copy-out-counts c)
+offset_bounds-counts-first c = omega (arith, bounds-counts-first c)
 
 pub overflow_add-counts : goal.overflow_add-counts
 overflow_add-counts c = omega (arith, first_small c.requires.0 c.loop-i.i c.loop-i-test.true c.line_at-line.ensures c.loop-i.invariant.1)
 
 pub bounds-counts-first-in-loop-i : goal.bounds-counts-first-in-loop-i
-bounds-counts-first-in-loop-i c = element-copy-out-counts c.before
+bounds-counts-first-in-loop-i c = bounds-counts-first c.before
 
 pub bounds-counts-second : goal.bounds-counts-second
 bounds-counts-second c =
@@ -34,7 +34,7 @@ bounds-counts-second c =
     omega (arith, second_word read c.loop-i.i c.loop-i-test.true c.line_at-line.ensures (sym c.names_another.ensures ∙ c.if-names_another.true), words_most read)
 
 pub offset_bounds-counts-second : goal.offset_bounds-counts-second
-offset_bounds-counts-second c = omega (arith, element-copy-out-counts-2 c)
+offset_bounds-counts-second c = omega (arith, bounds-counts-second c)
 
 pub overflow_add-counts-then-names_another : goal.overflow_add-counts-then-names_another
 overflow_add-counts-then-names_another c =
@@ -42,7 +42,7 @@ overflow_add-counts-then-names_another c =
     omega (arith, second_small c.requires.0 c.loop-i.i c.loop-i-test.true c.line_at-line.ensures c.loop-i.invariant.1 another)
 
 pub bounds-counts-second-then-names_another : goal.bounds-counts-second-then-names_another
-bounds-counts-second-then-names_another c = element-copy-out-counts-2 c.before
+bounds-counts-second-then-names_another c = bounds-counts-second c.before
 
 pub loop-i-preserved : goal.loop-i-preserved
 loop-i-preserved c =

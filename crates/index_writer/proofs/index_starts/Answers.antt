@@ -24,7 +24,7 @@ pub bounds-starts-j : goal.bounds-starts-j
 bounds-starts-j c = omega (arith, c.requires.0.limits.inputs_most, c.requires.0.limits.lines_most)
 
 pub offset_bounds-starts-j : goal.offset_bounds-starts-j
-offset_bounds-starts-j c = omega (arith, element-copy-out-users c)
+offset_bounds-starts-j c = omega (arith, bounds-starts-j c)
 
 pub overflow_cast-users : goal.overflow_cast-users
 overflow_cast-users c =
@@ -41,10 +41,10 @@ overflow_cast-starts c =
     omega (arith, h.invariant.1.next_is, part_inside (trail_of c.args.sheet.now) h.j (omega (arith, words_read read)), index_most read)
 
 pub bounds-starts-j-in-loop-j : goal.bounds-starts-j-in-loop-j
-bounds-starts-j-in-loop-j c = element-copy-out-users c.before
+bounds-starts-j-in-loop-j c = bounds-starts-j c.before
 
 pub offset_bounds-starts-j-in-loop-j : goal.offset_bounds-starts-j-in-loop-j
-offset_bounds-starts-j-in-loop-j c = omega (arith, element-write-starts c)
+offset_bounds-starts-j-in-loop-j c = omega (arith, bounds-starts-j-in-loop-j c)
 
 pub overflow_add-next-in-loop-j : goal.overflow_add-next-in-loop-j
 overflow_add-next-in-loop-j c =
@@ -55,7 +55,7 @@ overflow_add-next-in-loop-j c =
     omega (arith, h.invariant.1.next_is, h.invariant.1.counts h.j (omega arith) known, part_inside t h.j known, index_most read)
 
 pub overflow_add-next : goal.overflow_add-next
-overflow_add-next c = omega (arith, add-next-2 c)
+overflow_add-next c = omega (arith, overflow_add-next-in-loop-j c)
 
 pub loop-j-preserved : goal.loop-j-preserved
 loop-j-preserved c =

@@ -26,7 +26,7 @@ pub bounds-starts-j : goal.bounds-starts-j
 bounds-starts-j c = omega (arith, c.requires.0.limits.inputs_most, c.requires.0.limits.lines_most)
 
 pub offset_bounds-starts-j : goal.offset_bounds-starts-j
-offset_bounds-starts-j c = omega (arith, element-copy-out-last c)
+offset_bounds-starts-j c = omega (arith, bounds-starts-j c)
 
 pub overflow_add-at : goal.overflow_add-at
 overflow_add-at c =
@@ -37,7 +37,7 @@ overflow_add-at c =
     omega (arith, last_is t c.put_users.ensures h.j known, part_inside t h.j known, index_most read)
 
 pub overflow_cast-last : goal.overflow_cast-last
-overflow_cast-last c = omega (arith, add_at c)
+overflow_cast-last c = omega (arith, overflow_add-at c)
 
 pub overflow_sub-out : goal.overflow_sub-out
 overflow_sub-out c =

@@ -1,9 +1,30 @@
 -- In the second run the ones of a word's difference negate its literals.
+use Prim.Native.Nat.{ℕ}
+use mathlib.Core.Path.{◌≡◌, sym, ap, ◌∙◌}
 use native.Mathlib.Omega.{arith}
+use borrow.Author.Rules.{rules}
+use Rattle.trail.specs.declared.Line.{Line}
+use Rattle.trail.specs.Trail.{Trail, line_at, difference_at}
+use Rattle.differential.specs.declared.Differential.{Differential}
 use Rattle.sheet.specs.Fields.{trail_of}
+use Rattle.trail_reports.specs.Lines.{differential_of}
 use Rattle.clause_sizes.proofs.SheetCounts.{before_most}
 use Rattle.line_clauses.proofs.SameRun.{second_run_is}
 use Rattle.line_clauses.proofs.second_run.Goals as goal
+
+-- the parts of a line's differential
+module _ (t : Trail) (k : ℕ) (d : Differential) (is : d ≡ differential_of t k) where
+  line_is : d.line ≡ line_at t k
+  unfolding differential_of
+  line_is = ap (λ (x : Differential). x.line) is
+
+  first-is : d.first ≡ difference_at t d.line.first
+  unfolding differential_of
+  first-is = ap (λ (x : Differential). x.first) is ∙ ap (λ (l : Line). difference_at t l.first) (sym line_is)
+
+  second_is : d.second ≡ difference_at t d.line.second
+  unfolding differential_of
+  second_is = ap (λ (x : Differential). x.second) is ∙ ap (λ (l : Line). difference_at t l.second) (sym line_is)
 
 pub overflow_add-word : goal.overflow_add-word
 overflow_add-word c =

@@ -27,12 +27,12 @@ unfolding kind_of
 constant_report-requires c =
     let proper = c.requires.0 in
     let line = proper.line_right in
-    let constant = line.constant_word (at_key (λ q. uses_constant q ≡ true) c.in-6.keys2 refl) in
+    let constant = line.constant_word (at_key (λ q. uses_constant q ≡ true) c.in-6.is refl) in
     (omega arith, omega arith, constant, proper.first_word, line.difference_word)
 
 pub returns-in-1-to-4 : goal.returns-in-1-to-4
 returns-in-1-to-4 c =
-    let rest = c.in_default-1.rest in
+    let rest = c.in_default-1.in_default-1-own.rest in
     c.certain_if.ensures
     ∙ sym (linear_report _ (linear_number _ c.if-kind-lt1.false c.if-kind-lt9.true rest.0.0.1 rest.0.1))
 
@@ -40,18 +40,18 @@ pub returns-in-5 : goal.returns-in-5
 unfolding kind_of
 returns-in-5 c =
     c.words_report.ensures
-    ∙ sym (report_by_lem _ (at_key (λ q. reporting q ≡ two_words own_addition) c.in-5.keys1 refl))
+    ∙ sym (report_by_lem _ (at_key (λ q. reporting q ≡ two_words own_addition) c.in-5.is refl))
 
 pub returns-in-6 : goal.returns-in-6
 unfolding kind_of
 returns-in-6 c =
-    c.constant_report.ensures ∙ sym (constant_report_lem _ (at_key (λ q. reporting q ≡ constant) c.in-6.keys2 refl))
+    c.constant_report.ensures ∙ sym (constant_report_lem _ (at_key (λ q. reporting q ≡ constant) c.in-6.is refl))
 
 pub returns-in-9 : goal.returns-in-9
 unfolding kind_of
 returns-in-9 c =
     c.words_report-in-9.ensures
-    ∙ sym (report_by_lem _ (at_key (λ q. reporting q ≡ two_words turning_back) c.in-9.keys3 refl))
+    ∙ sym (report_by_lem _ (at_key (λ q. reporting q ≡ two_words turning_back) c.in-9.is refl))
 
 pub returns-in_default : goal.returns-in_default
 unfolding report_of
@@ -63,4 +63,4 @@ pub returns-in_default-2 : goal.returns-in_default-2
 unfolding report_of
 returns-in_default-2 c =
     let d = c.args.d in
-    at_no_kind (λ q. impossible ≡ report_by (reporting q) d) (inr (over c.if-kind-lt9.false c.in_default-1.rest.1)) refl
+    at_no_kind (λ q. impossible ≡ report_by (reporting q) d) (inr (over c.if-kind-lt9.false c.in_default-1.in_default-1-own.rest.1)) refl

@@ -26,18 +26,6 @@ put_number-next-requires c =
       left_fits (number_text (get_or list here.i (pos 0))) (numbers_text (drop (here.i + 1) list)) (text_next list here.i (omega arith)) here.invariant.1,
     )
 
-pub loop-i-preserved : goal.loop-i-preserved
-loop-i-preserved c =
-    let here = c.loop-i in
-    let list = c.args.list.now in
-    let put = c.put_number-next in
-    let e : to_z w32 (of_z w32 (get_or list here.i (pos 0))) ≡ get_or list here.i (pos 0) =
-    to_z-of_z {z = get_or list here.i (pos 0)} (record { sfits = c.number-1.given }) in (
-      search rules,
-      left_take (text_next list here.i (omega arith)) here.invariant.1
-          (subst (λ (z : ℤ). Wrote here.next (number_text z) here.out put.result put.new.out) e put.ensures),
-    )
-
 pub shape_of-out : goal.shape_of-out
 shape_of-out c = c.loop-i.invariant.1.long
 

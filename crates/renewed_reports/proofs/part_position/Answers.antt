@@ -24,10 +24,10 @@ overflow_add-at-in-loop-j c =
     omega (arith, next, c.requires.0, c.requires.1 (h.j + 1) (omega arith))
 
 pub overflow_cast-at : goal.overflow_cast-at
-overflow_cast-at c = omega (arith, add-at-2 c)
+overflow_cast-at c = omega (arith, overflow_add-at-in-loop-j c)
 
 pub overflow_add-at : goal.overflow_add-at
-overflow_add-at c = omega (arith, add-at-2 c)
+overflow_add-at c = omega (arith, overflow_add-at-in-loop-j c)
 
 pub loop-j-preserved : goal.loop-j-preserved
 loop-j-preserved c =

@@ -50,10 +50,10 @@ offset_bounds-index-at-in-loop-i c =
     )
 
 pub overflow_add-at : goal.overflow_add-at
-overflow_add-at c = omega (arith, mul-renew-report c)
+overflow_add-at c = omega (arith, offset_bounds-index-at-in-loop-i c)
 
 pub overflow_add-at-in-loop-i : goal.overflow_add-at-in-loop-i
-overflow_add-at-in-loop-i c = omega (arith, mul-renew-report c)
+overflow_add-at-in-loop-i c = omega (arith, offset_bounds-index-at-in-loop-i c)
 
 pub bounds-index-at-in-loop-i : goal.bounds-index-at-in-loop-i
 bounds-index-at-in-loop-i c =

@@ -13,18 +13,3 @@ unfolding kind_of
 returns-in_default c =
     let k = c.args.kind in
     sym (no_number has_carries k refl (⊎_elim (λ e. omega arith) (⊎_elim (λ e. omega arith) (λ e. omega arith))))
-
-pub returns-in_default-2 : goal.returns-in_default-2
-unfolding kind_of
-returns-in_default-2 c =
-    let rest = c.in_default-1.rest.1 in
-    let k = c.args.kind in
-    sym (no_number has_carries k refl (⊎_elim (λ e. omega arith) (⊎_elim (λ e. omega arith) rest)))
-
-pub returns-in-5-to-6 : goal.returns-in-5-to-6
-unfolding kind_of
-returns-in-5-to-6 c = at_key (λ q. true ≡ has_carries q) c.in-5-to-6.keys1 refl
-
-pub returns-in-5-to-6-2 : goal.returns-in-5-to-6-2
-unfolding kind_of
-returns-in-5-to-6-2 c = in_range (λ q. true ≡ has_carries q) c.if-kind-lt5.false c.if-kind-lt7.true (refl, (refl, tt))

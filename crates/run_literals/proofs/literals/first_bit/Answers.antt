@@ -15,23 +15,23 @@ pub overflow_sub-result : goal.overflow_sub-result
 unfolding kind_of
 overflow_sub-result c =
     let line = c.requires.0.line_right in
-    omega (arith, line.amount_most (at_key (λ q. uses_amount q ≡ true) c.in-3.keys1 refl))
+    omega (arith, line.amount_most (at_key (λ q. uses_amount q ≡ true) c.in-3.is refl))
 
 pub overflow_add-result-in-4 : goal.overflow_add-result-in-4
 unfolding kind_of
 overflow_add-result-in-4 c =
     let line = c.requires.0.line_right in
-    omega (arith, line.amount_most (at_key (λ q. uses_amount q ≡ true) c.in-4.keys2 refl))
+    omega (arith, line.amount_most (at_key (λ q. uses_amount q ≡ true) c.in-4.is refl))
 
 pub overflow_sub-result-in-7 : goal.overflow_sub-result-in-7
 overflow_sub-result-in-7 c =
     let r = c.args.run in
-    (left_taken r.line.kind r.width r.line.amount c.args.i c.in-7.keys3 c.requires.2).0
+    (left_taken r.line.kind r.width r.line.amount c.args.i c.in-7.is c.requires.2).0
 
 pub overflow_add-result-in-8 : goal.overflow_add-result-in-8
 overflow_add-result-in-8 c =
     let r = c.args.run in
-    let within = (right_taken r.line.kind r.width r.line.amount c.args.i c.in-8.keys4 c.requires.2).0 in
+    let within = (right_taken r.line.kind r.width r.line.amount c.args.i c.in-8.is c.requires.2).0 in
     omega arith
 
 pub returns-in-3 : goal.returns-in-3
@@ -40,7 +40,7 @@ returns-in-3 c =
     let a = c.args in
     let r = a.run in
     at_key (λ q. (gates q).taken r.width r.line.amount a.i ≡ bit_at ((a.i + (r.width - r.line.amount)) % r.width))
-    c.in-3.keys1 refl
+    c.in-3.is refl
 
 pub returns-in-4 : goal.returns-in-4
 unfolding kind_of
@@ -48,17 +48,17 @@ returns-in-4 c =
     let a = c.args in
     let r = a.run in
     at_key (λ q. (gates q).taken r.width r.line.amount a.i ≡ bit_at ((a.i + r.line.amount) % r.width))
-    c.in-4.keys2 refl
+    c.in-4.is refl
 
 pub returns-in-7 : goal.returns-in-7
 returns-in-7 c =
     let r = c.args.run in
-    (left_taken r.line.kind r.width r.line.amount c.args.i c.in-7.keys3 c.requires.2).1
+    (left_taken r.line.kind r.width r.line.amount c.args.i c.in-7.is c.requires.2).1
 
 pub returns-in-8 : goal.returns-in-8
 returns-in-8 c =
     let r = c.args.run in
-    (right_taken r.line.kind r.width r.line.amount c.args.i c.in-8.keys4 c.requires.2).1
+    (right_taken r.line.kind r.width r.line.amount c.args.i c.in-8.is c.requires.2).1
 
 pub returns-in_default : goal.returns-in_default
 unfolding kind_of
@@ -66,6 +66,6 @@ returns-in_default c =
     let a = c.args in
     let k = a.run.line.kind in
     let within = known_within k c.requires.0.line_right.kind_known in
-    let rest = c.in_default.rest in
+    let rest = c.in_default.in_default-own.rest in
     own_bit k a.run.width a.run.line.amount a.i within.0 within.1
     (no_number uses_amount k refl (⊎_elim rest.0.0.0.1 (⊎_elim rest.0.0.1 (⊎_elim rest.0.1 rest.1))))
