@@ -9,6 +9,9 @@
 // - `#lists`: a list of changes in one call, as `change_list_cases` says;
 // - `#indexes`: a sheet's index, and changes that are lent index and report, as `index_cases` says;
 // - `#texts`: what the programs print, as `program_texts` says.
+
+#![tactic(auto)]
+
 mod program_texts;
 
 use crate::program_texts::run_text;

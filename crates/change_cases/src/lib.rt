@@ -4,6 +4,9 @@
 // 0 but those listed. The changes are made one after the other. Each is tried before it is made, in buffers of three lengths, and held
 // against changing a copy and reporting on it. A case `claim ..` has two changes: the first is tried, and held against a copy that has
 // the second.
+
+#![tactic(auto)]
+
 mod trials;
 
 ghost use Rattle.std.specs.Prelude.{◌≡◌, ◌≤◌, length};

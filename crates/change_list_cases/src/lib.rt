@@ -4,6 +4,9 @@
 // but those listed. The list has COUNT numbers; those that the line does not have are 0. It is applied with reply buffers of ROOM,
 // ROOM + 1 and ROOM + 6 bytes, each time to the sheet as it is given, and held against a copy that is changed once for each pair.
 // Where a second list follows, `COUNT NUMBER ..`, the copy has the changes of that one.
+
+#![tactic(auto)]
+
 mod replies;
 
 ghost use Rattle.std.specs.Prelude.{◌≤◌, length};

@@ -7,6 +7,9 @@
 // - `pairs ..: SHEET`, the satisfying assignments and the starting values that follow;
 // - `start ..: COUNT WORD WORD .. SHEET`, two runs from COUNT words;
 // - `whole ..: SHEET`, a checksum of all lines' lists.
+
+#![tactic(auto)]
+
 pub mod following;
 mod lists;
 mod pairs;

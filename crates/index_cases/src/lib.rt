@@ -9,6 +9,9 @@
 //   `changing::change`, and what is made afresh of it;
 // - `claim ..`, the same of two changes: the first is made, and held against a copy that has the second. Then the first is made of
 //   the copy, lent the same.
+
+#![tactic(auto)]
+
 mod indexes;
 mod lent;
 

@@ -8,6 +8,9 @@
 // - `reports ..`, the reports of its lines;
 // - `sealing ..`, what sealing it afresh answers, and the bytes that this changes;
 // - any other, nothing.
+
+#![tactic(auto)]
+
 mod joined;
 mod lengths;
 

@@ -1,5 +1,8 @@
 // What the programs do: they read a sheet from an open file and print a text of it on standard output, part by part (document 01,
 // "The programs"). No text is made here: `texts` makes it.
+
+#![tactic(auto)]
+
 ghost use Rattle.std.specs.Prelude.{◌≡◌, ◌++◌, ◌≤◌, length, take, drop};
 ghost use Rattle.text_parts.specs.Parts.{part_means};
 ghost use Rattle.printing.specs.Texts.{text_call, HasRoom};

@@ -7,6 +7,9 @@
 // - `sheet ..: LENGTH OFFSET=VALUE ..`, a sheet of LENGTH bytes, all 0 but those listed, that is sealed first;
 // - `unsealed ..: LENGTH OFFSET=VALUE ..`, a sheet that is left as it is;
 // - `claim ..: KIND WIDTH REPORT WEIGHT CHAINS N COUNT`, a report and a count that are held against each other.
+
+#![tactic(auto)]
+
 mod claims;
 mod every;
 mod line_sheet;

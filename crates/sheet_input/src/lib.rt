@@ -1,4 +1,7 @@
 // Reading a sheet's bytes from an open file.
+
+#![tactic(auto)]
+
 ghost use Rattle.std.specs.Prelude.{length};
 ghost use Rattle.sheet_input.specs.Input.{Within};
 

@@ -1,4 +1,7 @@
 // Reads a sheet from standard input and prints the report of every line, and the totals.
+
+#![tactic(auto)]
+
 use libc::STDIN_FILENO;
 use printing::Text;
 
