@@ -8,13 +8,6 @@ use Rattle.trail.specs.Kinds.{kind_of, uses_amount}
 use Rattle.trail.proofs.KindTests.{amount_of_rotation, amount_of_shift, amount_unused}
 use Rattle.field_questions.proofs.amount_right.Goals as goal
 
-pub returns-in-3-to-4 : goal.returns-in-3-to-4
-unfolding amount_right
-returns-in-3-to-4 c =
-    let kind = c.args.line.kind in
-    let used : uses_amount (kind_of kind) ≡ true = ⊎_elim (λ w. amount_of_rotation kind (omega arith) (omega arith)) (λ w. amount_of_shift kind (omega arith) (omega arith)) c.in-3-to-4-1.branch in
-    rw (c.within.ensures, used)
-
 pub returns-in_default : goal.returns-in_default
 unfolding amount_right
 returns-in_default c = rw (amount_unused c.args.line.kind (λ h. omega arith) (λ h. omega arith))

@@ -32,24 +32,3 @@ returns-in-1 c =
     let zero = asks l c.if-line-ne0.false in
     let is = at_keys (λ q. rest l q ≡ (eqb l.amount 0 && eqb l.constant 0)) (numbers_with uses_second) l.kind c.in-1.is (refl, (refl, (refl, tt))) in
     c.both_zero.ensures ∙ sym (zero ∙ is)
-
-pub returns-in-3-to-4 : goal.returns-in-3-to-4
-unfolding rest kind_of
-returns-in-3-to-4 c =
-    let l = c.args.line in
-    let zero = asks l c.if-line-ne0.false in
-    let used : uses_amount (kind_of l.kind) ≡ true = ⊎_elim (λ w. amount_of_rotation l.kind (omega arith) (omega arith)) (λ w. amount_of_shift l.kind (omega arith) (omega arith)) c.in-3-to-4-1.branch in
-    let is = at_keys (λ q. rest l q ≡ (eqb l.second 0 && eqb l.constant 0)) (numbers_with uses_amount) l.kind (with_number uses_amount l.kind refl used) (refl, (refl, (refl, (refl, tt)))) in
-    c.both_zero-in-3-to-4.ensures ∙ sym (zero ∙ is)
-
-pub returns-in_default : goal.returns-in_default
-unfolding rest kind_of
-returns-in_default c =
-    let l = c.args.line in
-    let zero = asks l c.if-line-ne0.false in
-    let no_word = second_unused l.kind c.in_default-1.in_default-1-own.rest.1 in
-    let outside = c.in_default.branch in
-    let no-amount = amount_unused l.kind (λ h. ⊎_elim (λ w. omega arith) (⊎_elim (λ w. omega arith) (λ w. omega arith)) outside) (λ h. ⊎_elim (λ w. omega arith) (⊎_elim (λ w. omega arith) (λ w. omega arith)) outside) in
-    let some = every_kind (λ q. uses_second q || (uses_amount q || uses_constant q)) refl l.kind (omega arith) (omega arith) in
-    let constant : uses_constant (kind_of l.kind) ≡ true = rw (no_word, no-amount) at some in
-    c.both_zero-in_default.ensures ∙ sym (zero ∙ rw (no_word, no-amount, constant) (ap (λ t. eqb l.amount 0 && t) (and-true (eqb l.second 0))))
