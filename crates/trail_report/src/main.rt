@@ -1,7 +1,9 @@
 // Reads a sheet from standard input and prints the report of every line, and the totals.
-use libc::STDIN_FILENO;
-use printing::Text;
+#![tactic(auto)]
 
-fn main() {
-    printing::print(Text::Report, STDIN_FILENO);
+use printing::Text;
+use std::io;
+
+fn main(rt: HostRuntime) -> io::Result<()> {
+    printing::print(Text::Report, &mut rt.stdin(), &mut rt.stdout())
 }
