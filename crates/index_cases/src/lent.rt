@@ -111,7 +111,8 @@ fn print_claim(
 {
     print_call(out, sheet, copy, index, report, k, difference)?;
     print_held(out, sheet, copy, index, report)?;
-    print_call(out, copy, sheet, index, report, k, difference)
+    print_call(out, copy, sheet, index, report, k, difference)?;
+    Ok(())
 }
 
 // The answer of `changing_indexed::change_indexed`, the bytes that the sheet then has and another has not, and a checksum of the
