@@ -6,7 +6,7 @@ ghost use Rattle.answers.specs.Answers.{reading_means, refusal_of, answer_of};
 use sheet::Header;
 
 // The number of the first question whose answer is no, and its place.
-#[derive(Drop)]
+#[derive(Clone, Copy)]
 pub struct Refusal {
     pub number: u32,
     pub place: u64,
@@ -14,7 +14,7 @@ pub struct Refusal {
 
 // What a call answers to C, which takes no enum: the number and place of a refusal, with count 0; or 0, 0 and what the call counts.
 #[repr(C)]
-#[derive(Drop)]
+#[derive(Clone, Copy)]
 pub struct Answer {
     pub number: u32,
     pub place: u64,
@@ -22,7 +22,7 @@ pub struct Answer {
 }
 
 // What reading, sealing and each of their stages answer.
-#[derive(Drop)]
+#[derive(Clone, Copy)]
 pub enum Reading {
     Accepted(Header),
     Refused(Refusal),

@@ -9,7 +9,7 @@ use run_literals::kinds::{has_carries, uses_second};
 use run_literals::literals::{carry_literal, first_literal, is_filled, second_literal};
 
 // The first `count` of `lits`, in order. There is a place for the output behind three inputs.
-#[derive(Drop)]
+#[derive(Clone, Copy)]
 pub struct Inputs {
     pub lits: [i32; 4],
     pub count: usize,

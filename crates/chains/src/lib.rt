@@ -38,7 +38,7 @@ fn halvings(n: u32, u: u64, v: u64) -> WholeBits
 }
 
 // The cost of all chains, and how many there are.
-#[derive(Drop)]
+#[derive(Clone, Copy)]
 struct Chains {
     cost: Sixteenths,
     number: u32,

@@ -14,7 +14,7 @@ use report_buffer::REPORT_BYTES;
 use sheet_changes::{change_difference, change_stage};
 
 // That the change was made, or the refusal.
-#[derive(Drop)]
+#[derive(Clone, Copy)]
 pub enum ChangeAnswer {
     Changed,
     Refused(Refusal),

@@ -8,7 +8,7 @@ use applied_changes::apply_pairs;
 use reading::read;
 
 // The number of pairs, each of which was replied to, or the refusal.
-#[derive(Drop)]
+#[derive(Clone, Copy)]
 pub enum ChangesAnswer {
     Replied(usize),
     Refused(Refusal),

@@ -16,7 +16,7 @@ const MOST_LINES: usize = 248;
 const LIST_NUMBERS: usize = 4944;
 
 // How many numbers there were, and a checksum of them in their order.
-#[derive(Drop)]
+#[derive(Clone, Copy)]
 struct Fold {
     numbers: u64,
     checksum: u64,

@@ -3,7 +3,7 @@ pub mod counting;
 pub mod sizes;
 
 // A sheet's variables and the clauses of all its lines.
-#[derive(Drop)]
+#[derive(Clone, Copy)]
 pub struct Counts {
     pub variables: u32,
     pub clauses: u32,

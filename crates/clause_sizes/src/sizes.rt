@@ -12,7 +12,7 @@ use sheet_fields::lines::line_at;
 use trail::Line;
 
 // The clauses of a list, and its numbers: literals and zeros.
-#[derive(Drop)]
+#[derive(Clone, Copy)]
 pub struct ListSize {
     pub clauses: u32,
     pub numbers: usize,

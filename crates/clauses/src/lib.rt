@@ -14,14 +14,14 @@ use clause_sizes::sizes::list_numbers;
 use line_clauses::put_line;
 use reading::read;
 
-#[derive(Drop)]
+#[derive(Clone, Copy)]
 pub enum CountsAnswer {
     Given(Counts),
     Refused(Refusal),
 }
 
 // How many numbers were written, or the refusal.
-#[derive(Drop)]
+#[derive(Clone, Copy)]
 pub enum ListAnswer {
     Written(usize),
     Refused(Refusal),

@@ -2,7 +2,7 @@
 use trail::Line;
 
 // A line's differential: the width n, the line, and the differences of the words that it names.
-#[derive(Drop)]
+#[derive(Clone, Copy)]
 pub struct Differential {
     pub width: u32,
     pub line: Line,
@@ -11,19 +11,19 @@ pub struct Differential {
 }
 
 // A number of whole bits.
-#[derive(Drop)]
+#[derive(Clone, Copy)]
 pub struct WholeBits(pub u32);
 
 // A number of sixteenths of a bit.
-#[derive(Drop)]
+#[derive(Clone, Copy)]
 pub struct Sixteenths(pub u32);
 
 // How many words fit: document 01's N.
-#[derive(Drop)]
+#[derive(Clone, Copy)]
 pub struct Fitting(pub u64);
 
 // A line's report: halves with their weight; counted with weight, chains and the number of fitting words.
-#[derive(Drop)]
+#[derive(Clone, Copy)]
 pub enum LineReport {
     Impossible,
     Certain,

@@ -8,7 +8,7 @@ use index_writer::{WORDS, index_starts, put_index};
 use reading::read;
 
 // How many numbers were written, or the refusal.
-#[derive(Drop)]
+#[derive(Clone, Copy)]
 pub enum IndexAnswer {
     Written(usize),
     Refused(Refusal),

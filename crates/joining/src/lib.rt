@@ -11,7 +11,7 @@ use reading::read;
 use sheet::Header;
 
 // How many bytes were written, or the refusal.
-#[derive(Drop)]
+#[derive(Clone, Copy)]
 pub enum JoinAnswer {
     Written(usize),
     Refused(Refusal),

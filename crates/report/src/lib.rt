@@ -15,20 +15,20 @@ use report_buffer::{REPORT_BYTES, put_reports};
 use sheet_reports::{report_at, sum_reports};
 use trail_reports::Totals;
 
-#[derive(Drop)]
+#[derive(Clone, Copy)]
 pub enum LineAnswer {
     Given(LineReport),
     Refused(Refusal),
 }
 
-#[derive(Drop)]
+#[derive(Clone, Copy)]
 pub enum TotalsAnswer {
     Given(Totals),
     Refused(Refusal),
 }
 
 // How many bytes were written, or the refusal.
-#[derive(Drop)]
+#[derive(Clone, Copy)]
 pub enum BufferAnswer {
     Written(usize),
     Refused(Refusal),

@@ -13,7 +13,7 @@ use std::io::Write;
 
 // The report, the number of operand values that fit, and whether the two agree; or that there is no report, or that there
 // are too many operand values to count.
-#[derive(Drop)]
+#[derive(Clone, Copy)]
 pub enum Outcome {
     Reported(LineReport, u64, bool),
     Refused(Refusal),

@@ -5,7 +5,7 @@ use std::io;
 use std::io::Write;
 use units::in_sixteenths;
 
-#[derive(Drop)]
+#[derive(Clone, Copy)]
 pub struct Row {
     pub number: u64,
     pub weight: u64,

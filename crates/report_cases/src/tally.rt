@@ -10,7 +10,7 @@ use std::num::wrapping_add_u64;
 
 // How many there were, how many impossible, how many not as the count says; the sums of their numbers, modulo 2^64; and a
 // checksum of all numbers in their order.
-#[derive(Drop)]
+#[derive(Clone, Copy)]
 pub struct Tally {
     differentials: u64,
     impossible: u64,

@@ -6,7 +6,7 @@ use trail::Line;
 
 // One run of the line that makes `word`. The ones of a difference negate the literals of a word: of the first operand, the second,
 // and the word that is made. In the first run all three are 0. The carry into bit i is variable `carries` + i.
-#[derive(Drop)]
+#[derive(Clone, Copy)]
 pub struct LineRun {
     pub width: u32,
     pub word: usize,

@@ -11,7 +11,7 @@ use sheet_runs::RunsOutcome;
 use sheet_runs::lines::run_lines;
 use sheet_runs::start::is_start;
 
-#[derive(Drop)]
+#[derive(Clone, Copy)]
 pub enum RunsAnswer {
     Given(RunsOutcome),
     Refused(Refusal),

@@ -1,14 +1,14 @@
 // Sheets: what the format says (document 01, "The sheet"). Types alone: the code that reads a sheet stands above.
 
 // A sheet's form, by the size of its words.
-#[derive(Drop)]
+#[derive(Clone, Copy)]
 pub enum Form {
     // Words of 32 bits.
     Narrow,
 }
 
 // The parts of a sheet: its form, its blocks, the width n, the input count m and the line count L.
-#[derive(Drop)]
+#[derive(Clone, Copy)]
 pub struct Header {
     pub form: Form,
     pub blocks: usize,
@@ -18,7 +18,7 @@ pub struct Header {
 }
 
 // A line's record, as it lies in the file.
-#[derive(Drop)]
+#[derive(Clone, Copy)]
 pub struct Record {
     pub kind: u32,
     pub amount: u32,
@@ -30,7 +30,7 @@ pub struct Record {
 }
 
 // Which questions are asked: sealing leaves out those of the checks, and asks 23 of each line.
-#[derive(Drop)]
+#[derive(Clone, Copy)]
 pub enum Mode {
     Read,
     Seal,

@@ -6,7 +6,7 @@ pub mod start;
 type Words = [u64; 256];
 
 // The runs follow the trail, or disagree with it, first in a line and there lowest in a bit.
-#[derive(Drop)]
+#[derive(Clone, Copy)]
 pub enum RunsOutcome {
     Follows,
     Disagree(usize, u32),

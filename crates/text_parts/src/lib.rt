@@ -6,7 +6,7 @@ use answers::Refusal;
 use decimal::put_text;
 
 // How many bytes were written, or the refusal.
-#[derive(Drop)]
+#[derive(Clone, Copy)]
 pub enum PartAnswer {
     Written(usize),
     Refused(Refusal),

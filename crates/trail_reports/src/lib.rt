@@ -2,7 +2,7 @@
 use differential::Sixteenths;
 
 // The impossible lines, and the sums of weights and chains, repeats left out.
-#[derive(Drop)]
+#[derive(Clone, Copy)]
 pub struct Totals {
     pub impossible: u32,
     pub weight: Sixteenths,
