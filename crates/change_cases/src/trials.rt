@@ -4,7 +4,6 @@ ghost use Rattle.std.specs.Prelude.{◌≤◌};
 use case_text::checksum::with_bytes;
 use case_text::print::{print, print_number, print_refused};
 use changing::{ChangeAnswer, trial};
-use check::same;
 use report::{BufferAnswer, write_reports};
 use report_buffer::REPORT_BYTES;
 use report_cases::whole::lines_of;
@@ -66,7 +65,7 @@ fn print_held(
         BufferAnswer::Refused(refusal) => print_refused(out, refusal.number, refusal.place)?,
     }
     print_number(out, b", checksum ", with_bytes(0, tried, 0xA5))?;
-    if same_answer(answer, wanted) && same(tried, reported) {
+    if same_answer(answer, wanted) && tried == reported {
         return print(out, b", as reported");
     }
     print(out, b", not as reported")

@@ -7,7 +7,6 @@ use case_text::checksum::with_bytes;
 use case_text::print::{print, print_bytes, print_number, print_refused};
 use changing::{ChangeAnswer, change};
 use changing_all::{ChangesAnswer, change_all};
-use check::same;
 use sheet_cases::print::{print_answer, print_changes};
 use std::io;
 use std::io::Write;
@@ -133,7 +132,7 @@ fn print_held(
     print_answer(out, b", read", reading::read(changed))?;
     let mut wanted = [0xA5u8; REPLY_BYTES];
     change_singly(copy, others, &mut wanted);
-    if same(changed, copy) && same(replies, &wanted) {
+    if changed == &*copy && replies == &wanted {
         return print(out, b", as one by one");
     }
     print(out, b", not as one by one")

@@ -8,7 +8,6 @@ use case_text::print::{print, print_number};
 use change_cases::print_made;
 use changing::{ChangeAnswer, change};
 use changing_indexed::change_indexed;
-use check::same;
 use indexing::IndexAnswer;
 use report::{BufferAnswer, write_reports};
 use sheet_cases::print::print_changes;
@@ -145,7 +144,7 @@ fn print_held(
     index: &[u16],
     report: &[u8],
 ) -> io::Result<()> {
-    print_same(out, b"; sheet", same(sheet, copy))?;
+    print_same(out, b"; sheet", sheet == copy)?;
     print_same(out, b", index", is_index_of(copy, index))?;
     print_same(out, b", report", is_report_of(copy, report))
 }
@@ -167,7 +166,7 @@ fn is_index_of(sheet: &[u8], index: &[u16]) -> bool {
             if MOST_NUMBERS < count {
                 return false;
             }
-            same_numbers(index, &fresh[0..count])
+            index == &fresh[0..count]
         }
         IndexAnswer::Refused(_) => false,
     }
@@ -181,21 +180,8 @@ fn is_report_of(sheet: &[u8], report: &[u8]) -> bool {
             if REPORT_ROOM < bytes {
                 return false;
             }
-            same(report, &fresh[0..bytes])
+            report == &fresh[0..bytes]
         }
         BufferAnswer::Refused(_) => false,
     }
-}
-
-// Whether two lists have the same numbers.
-fn same_numbers(one: &[u16], other: &[u16]) -> bool {
-    if one.len() != other.len() {
-        return false;
-    }
-    for i in 0..one.len() {
-        if one[i] != other[i] {
-            return false;
-        }
-    }
-    true
 }
