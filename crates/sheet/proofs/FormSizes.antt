@@ -123,8 +123,8 @@ same_form s t e = refl
 pub word_bytes_lem : (f : Form) → 4 ≡ word_bytes f
 word_bytes_lem Narrow = refl
 
-pub width_most : (f : Form) → 32 ≡ width_most f
-width_most Narrow = refl
+pub width_most_lem : (f : Form) → 32 ≡ width_most f
+width_most_lem Narrow = refl
 
 pub record_bytes_lem : (f : Form) → 16 ≡ record_bytes f
 record_bytes_lem Narrow = refl

@@ -1,0 +1,17 @@
+-- The invariant: every line stands, and the counts of the words passed do.
+use Prim.Native.Nat.{◌-◌, ◌≤◌}
+use mathlib.Core.Path.{◌≡◌}
+use lib.ListN.{length}
+use Rattle.sheet.specs.Fields.{trail_of}
+use Rattle.sheet_indexes.specs.Users.{users}
+use Rattle.sheet_indexes.specs.Index.{part_start}
+use Rattle.index_writer.specs.Placing.{Stands}
+use Rattle.index_writer.proofs.put_index.Given as goal
+
+abbrev pub invariant-loop-j : goal.invariant-loop-j
+invariant-loop-j l =
+    (l.j ≤ l.words) × (length l.out ≡ length l.initial.out) × (l.at ≡ part_start (trail_of l.sheet) l.j)
+    × Stands (trail_of l.sheet) l.j (λ x. length (users (trail_of l.sheet) x)) l.initial.out l.out
+
+abbrev pub decreases-loop-j : goal.decreases-loop-j
+decreases-loop-j l = l.words - l.j

@@ -1,0 +1,31 @@
+use Prim.Native.Nat.{◌-◌}
+use native.Mathlib.Omega.{arith}
+use mathlib.Core.Path.{◌≡◌, ap, ◌∙◌}
+use mathlib.Core.Logic.{⊎_elim}
+use lib.ListN.{length}
+use borrow.Author.Rules.{rules}
+use Rattle.lent_questions.proofs.Comparing.{same_to, same_none, same_next, same_no_more}
+use Rattle.lent_questions.proofs.same_numbers.Goals as goal
+
+pub loop-i-init : goal.loop-i-init
+loop-i-init c = (search rules, same_none c.args.lent.now c.args.own.now)
+
+pub bounds-own-i : goal.bounds-own-i
+bounds-own-i c = omega (arith, c.requires)
+
+pub loop-i-preserved : goal.loop-i-preserved
+loop-i-preserved c =
+    let h = c.loop-i in
+    let a = c.args in (
+      omega arith,
+      ⊎_elim
+          (λ w. w.1 ∙ same_no_more a.lent.now a.own.now h.i w.0.taken)
+          (λ w. w.1 ∙ same_next a.lent.now a.own.now h.i h.invariant.1 w.0.left)
+          c.if-lent-i.branch,
+    )
+
+pub returns : goal.returns
+returns c =
+    let h = c.loop-i in
+    let all : h.i ≡ length c.args.lent.now = omega arith in
+    h.invariant.1 ∙ ap (same_to c.args.lent.now c.args.own.now) all
