@@ -1,4 +1,7 @@
 // What calls on a sheet answer: the answers of reading and sealing, a refusal in them, and the struct for C.
+
+#![tactic(auto)]
+
 ghost use Rattle.std.specs.Prelude.{◌≡◌};
 ghost use Rattle.sheet.specs.Asking.Verdict.{accepted as Verdict·accepted, refused as Verdict·refused};
 ghost use Rattle.answers.specs.Answers.{reading_means, refusal_of, answer_of};

@@ -1,4 +1,7 @@
 // A list of changes, made on a sheet that was read (document 02, W-207).
+
+#![tactic(auto)]
+
 ghost use Rattle.std.specs.Prelude.{◌≡◌, ◌/◌, ◌≤◌, length};
 ghost use Rattle.buffers.specs.Overwrite.{Wrote};
 ghost use Rattle.sheet.specs.Facts.{SheetRead};

@@ -1,4 +1,7 @@
 // Arithmetic of n-bit words, for every width n from 1 to 64.
+
+#![tactic(auto)]
+
 ghost use Rattle.std.specs.Prelude.{◌≡◌, ◌-◌, ◌^◌, ◌<◌, ◌≤◌};
 ghost use Rattle.words.specs.Words.{bit as Words·bit, is_word, sum_modulo, minus_modulo, rotate_left, rotate_right, shift_left, shift_right};
 

@@ -1,4 +1,7 @@
 // What is read from a lent buffer and written to it: little-endian numbers in bytes, and a list of values.
+
+#![tactic(auto)]
+
 ghost use Rattle.std.specs.Prelude.{◌≡◌, ◌+◌, ◌≤◌, ◌<◌, ◌^◌, length};
 ghost use Rattle.buffers.specs.Overwrite.{Wrote};
 ghost use Rattle.buffers.specs.LittleEndian.{byte_at, number_at, bytes_of};

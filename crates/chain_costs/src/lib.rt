@@ -1,4 +1,7 @@
 // What one chain costs: its length K, its numbers T and p, and the logarithm (document 01, "Line reports").
+
+#![tactic(auto)]
+
 pub mod chain_logarithm;
 
 ghost use Rattle.std.specs.Prelude.{◌≡◌, true, ◌<◌, ◌≤◌, ◌^◌};

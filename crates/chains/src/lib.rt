@@ -1,4 +1,7 @@
 // Adding a constant: kind 6. Its weight, by halvings and chains (document 01, "Line reports").
+
+#![tactic(auto)]
+
 ghost use Rattle.std.specs.Prelude.{◌≡◌, ◌*◌, ◌<◌, ◌≤◌, ◌^◌};
 ghost use Rattle.words.specs.Below.{total};
 ghost use Rattle.differential.specs.Constant.{constant_fitting, halvings as Constant·halvings, chains};

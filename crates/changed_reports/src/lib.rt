@@ -1,6 +1,9 @@
 // The reports that the lines of a sheet that was read would have, were one stated difference another (document 02, W-206). The sheet
 // is not changed, and nothing is copied: a line's report depends on what it states and on its operands' differences alone, so the
 // new difference is put in wherever it is one of these.
+
+#![tactic(auto)]
+
 ghost use Rattle.std.specs.Prelude.{◌≡◌, cond, ◌^◌, ◌<◌, ◌≤◌, eqb, length};
 ghost use Rattle.buffers.specs.Overwrite.{Wrote};
 ghost use Rattle.trail.specs.Changing.{with_difference};

@@ -1,5 +1,8 @@
 // Changes one stated difference of a sheet, or tries a change first (document 02, W-206). The calls that users make are `change` and
 // `trial`.
+
+#![tactic(auto)]
+
 ghost use Rattle.std.specs.Prelude.{◌≡◌};
 ghost use Rattle.changed_sheets.specs.ChangeCall.{change_call};
 ghost use Rattle.report.specs.Answers.{buffer_means};

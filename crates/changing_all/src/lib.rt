@@ -1,4 +1,7 @@
 // Sixty-four changes in one call (document 02, W-207). The call that users make is `change_all`.
+
+#![tactic(auto)]
+
 ghost use Rattle.std.specs.Prelude.{◌≡◌};
 ghost use Rattle.change_lists.specs.ChangesCall.{changes_call, changes_sheet};
 ghost use Rattle.changing_all.specs.Answers.{changes_means};

@@ -1,4 +1,7 @@
 // A change, a list of changes and a trial as C takes them: a struct for the answer.
+
+#![tactic(auto)]
+
 ghost use Rattle.std.specs.Prelude.{◌≡◌};
 ghost use Rattle.answers.specs.Answers.{answer_of};
 ghost use Rattle.change_lists.specs.ChangesCall.{changes_call, changes_sheet};

@@ -1,5 +1,8 @@
 // Changes one stated difference of a sheet that has its index and its report beside it (document 02, W-208). The call that users make
 // is `change_indexed`.
+
+#![tactic(auto)]
+
 ghost use Rattle.std.specs.Prelude.{◌≡◌};
 ghost use Rattle.changing.specs.Answers.{change_means};
 ghost use Rattle.indexed_changes.specs.IndexedCall.{indexed_call, indexed_sheet};

@@ -1,5 +1,8 @@
 // The lines that totals have charged so far (document 02, W-202): a list of numbers, seven to a line, and beside it marks, by which a
 // line that is not in the list is nearly always known without a search.
+
+#![tactic(auto)]
+
 ghost use Rattle.std.specs.Prelude.{◌≡◌, ◌&&◌, cond, ◌+◌, ◌*◌, ◌≤◌, ◌<◌, length, set};
 ghost use Rattle.buffers.specs.Overwrite.{overwrite};
 ghost use Rattle.differential.specs.Report.{report_means};

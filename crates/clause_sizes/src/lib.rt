@@ -1,4 +1,7 @@
 // Sizes of a sheet's clauses before they are written: the numbers of a line's list, and both counts (document 01, "Clauses").
+
+#![tactic(auto)]
+
 pub mod counting;
 pub mod sizes;
 

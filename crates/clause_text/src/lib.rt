@@ -1,4 +1,7 @@
 // Of a sheet that was read: its clause file part by part, each part written where there is room for it (document 01, "The programs").
+
+#![tactic(auto)]
+
 ghost use Rattle.std.specs.Prelude.{◌≡◌, suc, ◌≤◌, ◌<◌, length};
 ghost use Rattle.buffers.specs.Overwrite.{Wrote};
 ghost use Rattle.sheet.specs.Facts.{SheetRead};

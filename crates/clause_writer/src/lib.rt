@@ -1,4 +1,7 @@
 // The clauses of one run of one line, written into a lent buffer of numbers.
+
+#![tactic(auto)]
+
 mod bits;
 
 ghost use Rattle.std.specs.Prelude.{◌+◌, ◌≤◌, length};

@@ -1,4 +1,7 @@
 // A sheet's clauses for a SAT solver (document 01). The calls that users make are `clause_counts` and `line_list`.
+
+#![tactic(auto)]
+
 ghost use Rattle.std.specs.Prelude.{◌≡◌};
 ghost use Rattle.sheet.specs.Asking.{verdict};
 ghost use Rattle.sheet.specs.Fields.{trail_of};

@@ -1,4 +1,7 @@
 // The clauses as C takes them: numbers in a lent buffer, and a struct for the answer.
+
+#![tactic(auto)]
+
 ghost use Rattle.std.specs.Prelude.{◌≡◌};
 ghost use Rattle.answers.specs.Answers.{answer_of};
 ghost use Rattle.clauses.specs.Answers.{list_call};

@@ -1,5 +1,8 @@
 // Text written into a lent buffer of bytes: a text as it is, and a number in decimal. Each writer takes the position to write at and
 // returns the next one.
+
+#![tactic(auto)]
+
 ghost use Rattle.std.specs.Prelude.{◌≡◌, ◌++◌, ◌+◌, ◌≤◌, ◌<◌, length};
 ghost use Rattle.buffers.specs.Overwrite.{Wrote};
 ghost use Rattle.decimal.specs.Decimal.{decimal, spaced, behind};

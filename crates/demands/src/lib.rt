@@ -1,1 +1,3 @@
 // The owner's three demands, and their proof: no code.
+
+#![tactic(auto)]

@@ -1,4 +1,7 @@
 // One line's differential: what can be said of it (document 01, "Line reports"). Types alone: the code stands above.
+
+#![tactic(auto)]
+
 use trail::Line;
 
 // A line's differential: the width n, the line, and the differences of the words that it names.

@@ -1,5 +1,8 @@
 // Numbers below 1,000,000 in decimal, two digits at a time out of a table: a clause file has over a million of them. The table is
 // filled by whoever writes many numbers, and lent to each.
+
+#![tactic(auto)]
+
 ghost use Rattle.std.specs.Prelude.{◌+◌, ◌≤◌, ◌<◌, length};
 ghost use Rattle.buffers.specs.Overwrite.{Wrote};
 ghost use Rattle.decimal.specs.Decimal.{decimal};

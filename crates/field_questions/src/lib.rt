@@ -1,4 +1,7 @@
 // What questions 12, 13 and 15 ask of a line's fields, by its kind (document 01, "Questions, in order"; document 02, W-201).
+
+#![tactic(auto)]
+
 ghost use Rattle.std.specs.Prelude.{◌≡◌, ◌≤◌, ◌&&◌, eqb};
 ghost use Rattle.sheet.specs.Questions.{amount_right, constant_right, unused_zero};
 

@@ -1,4 +1,7 @@
 // Questions 3 to 8, of the header (document 01, "Questions, in order").
+
+#![tactic(auto)]
+
 ghost use Rattle.std.specs.Prelude.{◌≡◌, ◌-◌, ◌<◌, ◌≤◌, length};
 ghost use Rattle.words.specs.Below.{all};
 ghost use Rattle.sheet.specs.Form.{width_most, inputs_end};

@@ -1,6 +1,9 @@
 // The index of a sheet that was read: the lines that use each word (document 02, W-208). One pass over the lines counts each word's,
 // which gives every word its place in the index; a second puts each line behind those before it. So the time grows with words, lines
 // and uses, and no word's lines are searched for.
+
+#![tactic(auto)]
+
 ghost use Rattle.std.specs.Prelude.{◌≡◌, ◌+◌, ◌^◌, ◌<◌, ◌≤◌, length, get_or, set};
 ghost use Rattle.buffers.specs.Overwrite.{Wrote};
 ghost use Rattle.trail.specs.WellFormed.{most_words};

@@ -1,4 +1,7 @@
 // Who uses each word of a sheet (document 02, W-208). The call that users make is `index`.
+
+#![tactic(auto)]
+
 ghost use Rattle.std.specs.Prelude.{◌≡◌};
 ghost use Rattle.sheet_indexes.specs.IndexCall.{index_call};
 ghost use Rattle.indexing.specs.Answers.{index_means};

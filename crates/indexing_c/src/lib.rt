@@ -1,4 +1,7 @@
 // The index, and a change lent index and report, as C takes them: a struct for the answer.
+
+#![tactic(auto)]
+
 ghost use Rattle.std.specs.Prelude.{◌≡◌};
 ghost use Rattle.answers.specs.Answers.{answer_of};
 ghost use Rattle.indexed_changes.specs.IndexedCall.{indexed_call, indexed_sheet};

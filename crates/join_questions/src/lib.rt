@@ -1,4 +1,7 @@
 // The questions of two sheets that are to be joined: 20, of their widths, 21, of the names, and 22, of their lines (document 02, W-203).
+
+#![tactic(auto)]
+
 ghost use Rattle.std.specs.Prelude.{◌≡◌, ◌<◌, eqb, length};
 ghost use Rattle.words.specs.Below.{any};
 ghost use Rattle.trail.specs.Joining.{named, name_right, names_right};

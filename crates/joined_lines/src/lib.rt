@@ -1,4 +1,7 @@
 // The lines of the joined trail of two sheets that were read (document 02, W-203).
+
+#![tactic(auto)]
+
 ghost use Rattle.std.specs.Prelude.{◌≡◌, cond, ◌+◌, ◌<◌, length};
 ghost use Rattle.trail.specs.Kinds.{kind_of, uses_second};
 ghost use Rattle.trail.specs.Trail.{Trail, input_count, line_count, line_at};

@@ -1,4 +1,7 @@
 // Writes the joined sheet of two sheets that were read (document 02, W-203).
+
+#![tactic(auto)]
+
 mod lines;
 
 ghost use Rattle.std.specs.Prelude.{◌≡◌, ◌+◌, ◌*◌, ◌≤◌, length};

@@ -1,4 +1,7 @@
 // Joins two sheets (document 02, W-203). The call that users make is `join`.
+
+#![tactic(auto)]
+
 ghost use Rattle.std.specs.Prelude.{◌≡◌};
 ghost use Rattle.sheet.specs.Facts.{SheetRead};
 ghost use Rattle.joined_sheets.specs.JoinCall.{join_call};

@@ -1,4 +1,7 @@
 // Joining as C takes it: a struct for the answer.
+
+#![tactic(auto)]
+
 ghost use Rattle.std.specs.Prelude.{◌≡◌};
 ghost use Rattle.answers.specs.Answers.{answer_of};
 ghost use Rattle.joined_sheets.specs.JoinCall.{join_call};

@@ -1,5 +1,8 @@
 // Question 26, of an index and a report that are lent beside a sheet that was read (document 02, W-208): whether each is the sheet's own
 // at its exact length. Its own is made and compared, so comparing a report costs a report.
+
+#![tactic(auto)]
+
 ghost use Rattle.std.specs.Prelude.{◌≡◌, ◌&&◌, ◌≤◌, eqb, length, get_or};
 ghost use Rattle.words.specs.Below.{all};
 ghost use Rattle.sheet.specs.Fields.{trail_of};

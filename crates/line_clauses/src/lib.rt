@@ -1,4 +1,7 @@
 // One line's list of a sheet that was read: the first run's clauses, then the second run's (document 01, "Clauses").
+
+#![tactic(auto)]
+
 ghost use Rattle.std.specs.Prelude.{◌≡◌, ◌+◌, ◌<◌, ◌≤◌, length};
 ghost use Rattle.buffers.specs.Overwrite.{Wrote};
 ghost use Rattle.clause_lists.specs.Lists.{clauses_in, line_list};

@@ -1,4 +1,7 @@
 // Questions 9 to 15 of each line, and 23 in sealing (document 01, "Questions, in order"; document 02, W-201 and W-205).
+
+#![tactic(auto)]
+
 ghost use Rattle.std.specs.Prelude.{◌≡◌, ◌<◌, ◌≤◌};
 ghost use Rattle.words.specs.Below.{concat};
 ghost use Rattle.sheet.specs.Asking.{verdict};

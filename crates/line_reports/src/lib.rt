@@ -1,4 +1,7 @@
 // One line's report: whether its differential can happen, and what it costs (document 01, "Line reports"; document 02, W-201).
+
+#![tactic(auto)]
+
 mod linear_kinds;
 mod two_words;
 

@@ -1,4 +1,7 @@
 // The word that a line makes, by its kind (document 01, "The sheet"; document 02, W-201).
+
+#![tactic(auto)]
+
 ghost use Rattle.std.specs.Prelude.{◌≡◌, true, cond, ◌^◌, ◌≤◌, ◌<◌};
 ghost use Rattle.trail.specs.Kinds.{kind_of, uses_second, uses_amount, makes};
 

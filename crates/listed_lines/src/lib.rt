@@ -1,4 +1,7 @@
 // Lines in a list of numbers, seven to a line: whether one of them equals a given line.
+
+#![tactic(auto)]
+
 ghost use Rattle.std.specs.Prelude.{◌≡◌, ◌+◌, ◌*◌, ◌≤◌, length};
 ghost use Rattle.listed_lines.specs.Listed.{line_numbers, numbers_of, stands_at, is_listed};
 

@@ -1,5 +1,8 @@
 // Literals and clauses as text, written into a lent buffer of bytes (document 01, "The programs"). Each writer takes the position to
 // write at and returns the next one.
+
+#![tactic(auto)]
+
 ghost use Rattle.std.specs.Prelude.{◌≡◌, ◌+◌, ◌≤◌, ◌<◌, length, nat_abs};
 ghost use Rattle.buffers.specs.Overwrite.{Wrote};
 ghost use Rattle.digit_pairs.specs.Pairs.{PairTable};

@@ -1,4 +1,7 @@
 // Questions 10 and 11, of a line's operands, and 23 in sealing (document 01, "Questions, in order"; document 02, W-201 and W-205).
+
+#![tactic(auto)]
+
 ghost use Rattle.std.specs.Prelude.{◌≡◌, ℕ};
 ghost use Rattle.sheet.specs.Asking.{all_yes};
 ghost use Rattle.sheet.specs.Questions.{operands_earlier, operands_differ, self_xor_questions};

@@ -1,4 +1,7 @@
 // Reading a sheet: all questions in their order. The call that users make is `read`.
+
+#![tactic(auto)]
+
 ghost use Rattle.std.specs.Prelude.{◌≡◌};
 ghost use Rattle.sheet.specs.Asking.{verdict};
 ghost use Rattle.sheet.specs.Fields.{header_of};

@@ -1,5 +1,8 @@
 // A report renewed after a change (document 02, W-208): the reports of the changed line and of the lines that the index names as users of
 // its word are written anew, and no others.
+
+#![tactic(auto)]
+
 ghost use Rattle.std.specs.Prelude.{◌≡◌, ℕ, ◌<◌, ◌≤◌, length};
 ghost use Rattle.sheet.specs.Fields.{trail_of};
 ghost use Rattle.sheet.specs.Facts.{SheetRead};

@@ -1,4 +1,7 @@
 // The calls on a sheet's reports (document 01, "Line reports"; document 02, W-202): `line_report`, `sheet_totals` and `write_reports`.
+
+#![tactic(auto)]
+
 ghost use Rattle.std.specs.Prelude.{◌≡◌};
 ghost use Rattle.sheet.specs.Asking.{verdict};
 ghost use Rattle.sheet.specs.Fields.{trail_of};

@@ -1,4 +1,7 @@
 // The report buffer of a sheet that was read: the reports of all lines, 16 bytes each (document 01, "Line reports").
+
+#![tactic(auto)]
+
 ghost use Rattle.std.specs.Prelude.{◌+◌, ◌≤◌, length};
 ghost use Rattle.buffers.specs.Overwrite.{Wrote};
 ghost use Rattle.sheet.specs.Fields.{trail_of};

@@ -1,4 +1,7 @@
 // The calls on reports as C takes them: bytes or numbers in a lent buffer, and a struct for the answer.
+
+#![tactic(auto)]
+
 ghost use Rattle.std.specs.Prelude.{◌≡◌};
 ghost use Rattle.answers.specs.Answers.{answer_of};
 ghost use Rattle.report.specs.Answers.{reports_call};

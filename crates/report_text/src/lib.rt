@@ -1,4 +1,7 @@
 // Of a sheet that was read: its report as text, part by part (document 01, "The programs").
+
+#![tactic(auto)]
+
 ghost use Rattle.std.specs.Prelude.{◌≡◌, [], ◌∷◌, ◌++◌, ◌+◌, ◌≤◌, length};
 ghost use Rattle.buffers.specs.Overwrite.{Wrote};
 ghost use Rattle.decimal.specs.Decimal.{behind};

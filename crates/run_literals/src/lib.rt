@@ -1,4 +1,7 @@
 // One run of one line on plain numbers, and the literals of its words and carries (document 01, "Clauses").
+
+#![tactic(auto)]
+
 pub mod kinds;
 pub mod literals;
 

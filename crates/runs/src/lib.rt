@@ -1,4 +1,7 @@
 // The call on a sheet's two runs (document 01, "Two runs"): `two_runs`.
+
+#![tactic(auto)]
+
 ghost use Rattle.std.specs.Prelude.{◌≡◌};
 ghost use Rattle.sheet.specs.Asking.{verdict};
 ghost use Rattle.sheet.specs.Fields.{trail_of};

@@ -1,4 +1,7 @@
 // Two runs as C takes them: numbers in a lent buffer, and a struct for the answer.
+
+#![tactic(auto)]
+
 ghost use Rattle.std.specs.Prelude.{◌≡◌, ◌≤◌, length};
 ghost use Rattle.buffers.specs.Overwrite.{Wrote};
 ghost use Rattle.answers.specs.Answers.{answer_of};

@@ -1,4 +1,7 @@
 // Sealing a sheet: it is given its checks. The call that users make is `seal`.
+
+#![tactic(auto)]
+
 ghost use Rattle.std.specs.Prelude.{◌≡◌, ◌*◌, ◌≤◌, length};
 ghost use Rattle.sheet.specs.Asking.{verdict};
 ghost use Rattle.sheet.specs.Fields.{header_of};

@@ -1,5 +1,7 @@
 // Sheets: what the format says (document 01, "The sheet"). Types alone: the code that reads a sheet stands above.
 
+#![tactic(auto)]
+
 // A sheet's form, by the size of its words.
 #[derive(Clone, Copy)]
 pub enum Form {

@@ -1,4 +1,7 @@
 // One stated difference of a sheet that was read: what is asked of a new one, and its bytes changed (document 02, W-206).
+
+#![tactic(auto)]
+
 ghost use Rattle.std.specs.Prelude.{◌≡◌, ◌+◌, ◌*◌, ◌%◌, ◌^◌, ◌<◌, ◌≤◌, length};
 ghost use Rattle.buffers.specs.LittleEndian.{number_at};
 ghost use Rattle.sheet.specs.Asking.{verdict};

@@ -1,1 +1,3 @@
 // A trail as a sheet's bytes: definitions and theorems, no code.
+
+#![tactic(auto)]

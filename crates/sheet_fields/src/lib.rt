@@ -1,4 +1,7 @@
 // A sheet's fields at their offsets (document 01, "The sheet").
+
+#![tactic(auto)]
+
 pub mod lines;
 pub mod predicates;
 pub mod sizes;

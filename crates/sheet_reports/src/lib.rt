@@ -1,5 +1,8 @@
 // The reports of a sheet that was read: one line's differential and report, and the totals (document 01, "Line reports"; document 02,
 // W-202).
+
+#![tactic(auto)]
+
 ghost use Rattle.std.specs.Prelude.{◌≡◌, ◌<◌, ◌^◌};
 ghost use Rattle.sheet.specs.Fields.{trail_of};
 ghost use Rattle.sheet.specs.Facts.{SheetRead};

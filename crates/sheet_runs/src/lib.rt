@@ -1,4 +1,7 @@
 // The two runs of a sheet that was read (document 01, "Two runs").
+
+#![tactic(auto)]
+
 pub mod lines;
 pub mod start;
 

@@ -1,5 +1,8 @@
 // Writes a trail as a sheet's bytes, piece by piece, each where the one before it ends; the checks come last, by `sealing`
 // (document 01, "The sheet").
+
+#![tactic(auto)]
+
 pub mod header;
 pub mod records;
 

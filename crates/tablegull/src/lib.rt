@@ -1,5 +1,8 @@
 // The calls for C and for what links as C does: each is a call of the crates whose names end in `_c`, with the same contract, exported.
 // A slice is lent as a pointer and a length. Every call answers with the same struct.
+
+#![tactic(auto)]
+
 ghost use Rattle.std.specs.Prelude.{◌≡◌};
 ghost use Rattle.sheet.specs.Asking.{verdict};
 ghost use Rattle.sheet.specs.Fields.{header_of};

@@ -1,4 +1,7 @@
 // One part of a sheet's text: the answer of a call for one, and the part put where there is room for it.
+
+#![tactic(auto)]
+
 ghost use Rattle.std.specs.Prelude.{◌≡◌};
 ghost use Rattle.text_parts.specs.Parts.{part_means, room_call};
 

@@ -1,4 +1,7 @@
 // The texts that users take away, part by part (document 01, "The programs"): `clause_text`, `report_text` and `refusal_text`.
+
+#![tactic(auto)]
+
 ghost use Rattle.std.specs.Prelude.{◌≡◌};
 ghost use Rattle.buffers.specs.Overwrite.{Wrote};
 ghost use Rattle.sheet.specs.Asking.{verdict};

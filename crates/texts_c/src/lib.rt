@@ -1,4 +1,7 @@
 // The texts as C takes them: bytes in a lent buffer, and a struct for the answer.
+
+#![tactic(auto)]
+
 ghost use Rattle.std.specs.Prelude.{◌≡◌};
 ghost use Rattle.answers.specs.Answers.{answer_of};
 ghost use Rattle.text_parts.specs.Parts.{part_means};

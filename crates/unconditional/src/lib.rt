@@ -1,5 +1,8 @@
 // Every public call, and every exported one, made with arguments of which nothing is known: so none of them requires anything. A call
 // that required something would not be proved here. Nothing uses these functions.
+
+#![tactic(auto)]
+
 use answers::Refusal;
 use tablegull::{
     tablegull_change, tablegull_change_all, tablegull_change_indexed, tablegull_clause_counts,

@@ -1,4 +1,7 @@
 // Whole bits and sixteenths of a bit: one becomes the other here and nowhere else.
+
+#![tactic(auto)]
+
 ghost use Rattle.std.specs.Prelude.{◌≡◌, ◌*◌, ◌<◌, ◌^◌};
 ghost use Rattle.differential.specs.Unit.{unit};
 

@@ -1,1 +1,3 @@
 // n-bit words, and counting below a bound: definitions and their laws, no code.
+
+#![tactic(auto)]

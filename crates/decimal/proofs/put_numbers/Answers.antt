@@ -28,7 +28,7 @@ bounds-out-next c = omega (arith, left_fits (10 ∷ []) [] (line_end c.args.numb
 
 pub overflow_add-result : goal.overflow_add-result
 overflow_add-result c =
-    let room : c.loop-i.next < length c.loop-i.out = omega (arith, left_fits (10 ∷ []) [] (line_end c.args.numbers.now c.loop-i.i (omega arith)) c.loop-i.invariant.2) in 
+    let room : c.loop-i.next < length c.loop-i.out = omega (arith, left_fits (10 ∷ []) [] (line_end c.args.numbers.now c.loop-i.i (omega arith)) c.loop-i.invariant.2) in
     omega (arith, c.loop-i.invariant.2.long)
 
 pub shape_of-out : goal.shape_of-out
@@ -36,6 +36,6 @@ shape_of-out c = rw length-set c.loop-i.invariant.2.long
 
 pub returns : goal.returns
 returns c =
-    let room : c.loop-i.next < length c.loop-i.out = omega (arith, left_fits (10 ∷ []) [] (line_end c.args.numbers.now c.loop-i.i (omega arith)) c.loop-i.invariant.2) in 
+    let room : c.loop-i.next < length c.loop-i.out = omega (arith, left_fits (10 ∷ []) [] (line_end c.args.numbers.now c.loop-i.i (omega arith)) c.loop-i.invariant.2) in
     left_done refl
     (left_take (line_end c.args.numbers.now c.loop-i.i (omega arith)) c.loop-i.invariant.2 (wrote_set c.loop-i.next 10 c.loop-i.out room))

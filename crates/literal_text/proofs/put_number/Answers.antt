@@ -30,19 +30,19 @@ put_literal-next-requires c =
 pub bounds-out-next : goal.bounds-out-next
 bounds-out-next c =
     let put = subst (λ (z : ℤ). Wrote c.args.at (literal_text z) c.args.out.now c.put_literal-next.result c.put_literal-next.new.out)
-      (to_z-of_z c.ranges.number) c.put_literal-next.ensures in
+    (to_z-of_z c.ranges.number) c.put_literal-next.ensures in
     blank_room (literal_text c.args.number) c.args.at c.args.out.now (is_literal c.args.number c.if-number-eq0.false) c.requires.2 put
 
 pub overflow_add-result-2 : goal.overflow_add-result-2
 overflow_add-result-2 c =
     let put = subst (λ (z : ℤ). Wrote c.args.at (literal_text z) c.args.out.now c.put_literal-next.result c.put_literal-next.new.out)
-      (to_z-of_z c.ranges.number) c.put_literal-next.ensures in
+    (to_z-of_z c.ranges.number) c.put_literal-next.ensures in
     let room : c.put_literal-next.result < length c.put_literal-next.new.out =
-      blank_room (literal_text c.args.number) c.args.at c.args.out.now (is_literal c.args.number c.if-number-eq0.false) c.requires.2 put in
+    blank_room (literal_text c.args.number) c.args.at c.args.out.now (is_literal c.args.number c.if-number-eq0.false) c.requires.2 put in
     omega (arith, c.put_literal-next.auto.out)
 
 pub returns : goal.returns
 returns c =
     let put = subst (λ (z : ℤ). Wrote c.args.at (literal_text z) c.args.out.now c.put_literal-next.result c.put_literal-next.new.out)
-      (to_z-of_z c.ranges.number) c.put_literal-next.ensures in
+    (to_z-of_z c.ranges.number) c.put_literal-next.ensures in
     blank_wrote (literal_text c.args.number) c.args.at c.args.out.now (is_literal c.args.number c.if-number-eq0.false) c.requires.2 put
