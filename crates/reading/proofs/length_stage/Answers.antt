@@ -12,9 +12,6 @@ pub returns-then-not-within : goal.returns-then-not-within
 unfolding length_questions
 returns-then-not-within c = search stage depth 12
 
-pub header_of-requires : goal.header_of-requires
-header_of-requires c = within_least 1024 4608 _ (granted c.within.ensures c.if-not-within.false)
-
 pub returns : goal.returns
 unfolding length_questions
 returns c = search stage depth 12
