@@ -3,12 +3,14 @@ use Prim.Native.Nat.{ℕ, zero, suc, ◌+◌, ◌<◌}
 use native.Mathlib.Omega.{arith}
 use mathlib.Core.Path.{◌≡◌, refl, sym, subst}
 use mathlib.Core.Bool.{Bool, true, false, ◌&&◌, cond}
+use mathlib.Core.List.{List}
 use borrow.Author.Tests.{lt-ltb, le-ltb}
 use lib.Dec.{ltb}
 use Rattle.trail.specs.Kinds.{kind_of}
-use Rattle.clause_lists.specs.Kinds.{has_carries}
+use Rattle.clause_lists.specs.Kinds.{Carries, gates, has_carries}
+use Rattle.clause_lists.specs.Kinds.Carries.{none, made}
 use Rattle.run_literals.specs.declared.LineRun.{LineRun}
-use Rattle.bit_gates.specs.Gates.{outputs_of}
+use Rattle.bit_gates.specs.Gates.{outputs_of, function_as, function_of}
 
 -- output 0 and those after it
 pub at_first : (P : ℕ → Type 0) (j : ℕ) → j ≡ 0 → P 0 → P j
@@ -17,6 +19,14 @@ at_first P j e p = subst P (sym e) p
 pub at_later : (P : ℕ → Type 0) (j : ℕ) → (j ≡ 0 → ⊥) → ((k : ℕ) → P (suc k)) → P j
 at_later P zero n p = absurd (n refl)
 at_later P (suc k) n p = p k
+
+-- what makes output 1 makes each later one
+pub later_output : (r : LineRun) (P : (List Bool → Bool) → Type 0) (k : ℕ) → P (function_of r 1) → P (function_of r (suc k))
+later_output r P k = at (gates (kind_of r.line.kind)).carries
+  where
+    at : (cs : Carries) → P (function_as cs 1) → P (function_as cs (suc k))
+    at none p = p
+    at (made next value) p = p
 
 module _ (r : LineRun) (i : ℕ) where
   abbrev carries : Bool

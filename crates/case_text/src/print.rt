@@ -1,31 +1,40 @@
-// Answers on standard output, piece by piece as they are made.
-use libc::STDOUT_FILENO;
+// Answers, written piece by piece as they are made. Where a writer tells what it holds, what was written stands behind that.
+ghost use Rattle.std.specs.Prelude.{◌++◌, OnOk, codes, decimal};
+ghost use Rattle.std.specs.Io.KnownBytes.{Appends};
+ghost use Rattle.case_text.specs.Hexadecimal.{hexadecimal};
+
+use std::io;
+use std::io::Write;
 
 // A text.
-pub fn print(text: &[u8]) {
-    io::write_all(STDOUT_FILENO, text);
+pub fn print<W: Write>(out: &mut W, text: &[u8]) -> io::Result<()>
+    ensures { OnOk result (Appends (W.contents out.old) (W.contents out.new) text.now) }
+{
+    out.write_all(text)
 }
 
 // A number in decimal, after a text.
-pub fn print_number(before: &[u8], number: u64) {
-    print(before);
-    io::print_decimal(STDOUT_FILENO, number);
+pub fn print_number<W: Write>(out: &mut W, before: &[u8], number: u64) -> io::Result<()>
+    ensures { OnOk result (Appends (W.contents out.old) (W.contents out.new) (before.now ++ decimal number)) }
+{
+    print(out, before)?;
+    write!(out, "{number}")
 }
 
 // A refusal: ` refused NUMBER PLACE`.
-pub fn print_refused(number: u32, place: u64) {
-    print_number(b" refused ", number as u64);
-    print_number(b" ", place);
+pub fn print_refused<W: Write>(out: &mut W, number: u32, place: u64) -> io::Result<()>
+    ensures { OnOk result (Appends (W.contents out.old) (W.contents out.new)
+        (codes " refused " ++ (decimal number ++ (codes " " ++ decimal place)))) }
+{
+    write!(out, " refused {number} {place}")
 }
 
 // Bytes in hexadecimal, two digits each.
-pub fn print_bytes(bytes: &[u8]) {
-    for i in 0..bytes.len() {
-        print_byte(bytes[i]);
+pub fn print_bytes<W: Write>(out: &mut W, bytes: &[u8]) -> io::Result<()>
+    ensures { OnOk result (Appends (W.contents out.old) (W.contents out.new) (hexadecimal bytes.now)) }
+{
+    for byte in bytes {
+        write!(out, "{byte:02x}")?;
     }
-}
-
-// One byte in hexadecimal.
-fn print_byte(byte: u8) {
-    io::print_hex(STDOUT_FILENO, byte as u64, 2);
+    Ok(())
 }

@@ -9,57 +9,54 @@
 // - `#lists`: a list of changes in one call, as `change_list_cases` says;
 // - `#indexes`: a sheet's index, and changes that are lent index and report, as `index_cases` says;
 // - `#texts`: what the programs print, as `program_texts` says.
-
 #![tactic(auto)]
 
 mod program_texts;
 
 use crate::program_texts::run_text;
-use case_text::parse::find;
-use libc::STDIN_FILENO;
+use std::io;
+use std::io::{BufWriter, Read, Write};
+use std::rt::Files;
 
-// Room for all cases.
-const CASES_BYTES: usize = 458752;
-
-fn main() {
-    let mut input = [0u8; CASES_BYTES];
-    let n = io::read_full(STDIN_FILENO, &mut input);
-    run_lines(&input[..n]);
+fn main(rt: HostRuntime) -> io::Result<()> {
+    let mut input = Vec::new(rt.alloc());
+    rt.stdin().read_to_end(&mut input)?;
+    let mut out = BufWriter::new(rt.alloc(), rt.stdout())?;
+    run_lines(&rt, &mut out, &input)?;
+    out.flush()
 }
 
 // Goes through the lines of the input.
-fn run_lines(input: &[u8]) {
+fn run_lines(files: &impl Files, out: &mut impl Write, input: &[u8]) -> io::Result<()> {
     let mut subject = b's';
-    let mut from = 0;
-    while from < input.len() {
-        let end = find(input, from, b'\n');
-        subject = run_line(&input[from..end], subject);
-        from = end + 1;
+    for line in input.split(|byte| *byte == b'\n') {
+        subject = run_line(files, out, line, subject)?;
     }
+    Ok(())
 }
 
 // Answers a case on a subject, or takes up another: the letter after `#`. Tells the next line's subject.
-fn run_line(line: &[u8], subject: u8) -> u8 {
+fn run_line(files: &impl Files, out: &mut impl Write, line: &[u8], subject: u8) -> io::Result<u8> {
     if line.len() < 2 {
-        return subject;
+        return Ok(subject);
     }
     if line[0] == b'#' {
-        return line[1];
+        return Ok(line[1]);
     }
-    run_case(line, subject);
-    subject
+    run_case(files, out, line, subject)?;
+    Ok(subject)
 }
 
 // Answers a case on a subject.
-fn run_case(line: &[u8], subject: u8) {
+fn run_case(files: &impl Files, out: &mut impl Write, line: &[u8], subject: u8) -> io::Result<()> {
     match subject {
-        b's' => sheet_cases::run_case(line),
-        b'r' => report_cases::run_case(line),
-        b'c' => clause_cases::run_case(line),
-        b'j' => join_cases::run_case(line),
-        b'd' => change_cases::run_case(line),
-        b'l' => change_list_cases::run_case(line),
-        b'i' => index_cases::run_case(line),
-        _ => run_text(line),
+        b's' => sheet_cases::run_case(out, line),
+        b'r' => report_cases::run_case(out, line),
+        b'c' => clause_cases::run_case(out, line),
+        b'j' => join_cases::run_case(out, line),
+        b'd' => change_cases::run_case(out, line),
+        b'l' => change_list_cases::run_case(out, line),
+        b'i' => index_cases::run_case(out, line),
+        _ => run_text(files, out, line),
     }
 }

@@ -7,6 +7,10 @@ use case_text::checksum::{with_bytes, with_number};
 use case_text::parse::find;
 use case_text::print::{print, print_number};
 use printing::Text;
+use sheet_input::read_input;
+use std::io::{Read, Write};
+use std::rt::Files;
+use std::{fs, io, str};
 use text_parts::PartAnswer;
 use texts::clause_text;
 
@@ -17,59 +21,63 @@ const INPUT_BYTES: usize = 4609;
 const PART_BYTES: usize = 34608;
 
 // Prints a case and its text.
-pub fn run_text(case: &[u8]) {
-    print(case);
-    print(b":\n");
+pub fn run_text(files: &impl Files, out: &mut impl Write, case: &[u8]) -> io::Result<()> {
+    print(out, case)?;
+    print(out, b":\n")?;
     let blank = find(case, 0, b' ');
     if blank < case.len() {
-        print_named(case[0], &case[blank + 1..]);
+        print_named(files, out, case[0], &case[blank + 1..])?;
     }
+    Ok(())
 }
 
 // Prints what a letter stands for, of the sheet of a name.
-fn print_named(letter: u8, name: &[u8]) {
-    let file = os::open_read(name);
-    if file < 0 {
-        os::fail(name);
-        return;
-    }
-    print_opened(letter, file);
-    libc::close(file);
+fn print_named(
+    files: &impl Files,
+    out: &mut impl Write,
+    letter: u8,
+    name: &[u8],
+) -> io::Result<()> {
+    let Ok(path) = str::from_utf8(name) else {
+        return Err(io::Error::from(io::ErrorKind::InvalidInput));
+    };
+    print_opened(out, letter, &mut fs::open(files, path)?)
 }
 
-fn print_opened(letter: u8, file: i32) {
+fn print_opened(out: &mut impl Write, letter: u8, file: &mut impl Read) -> io::Result<()> {
     match letter {
-        b'r' => printing::print(Text::Report, file),
-        b'c' => printing::print(Text::Clauses, file),
-        b'h' => print_header(file),
-        _ => print_digest(file),
+        b'r' => printing::print(Text::Report, file, out),
+        b'c' => printing::print(Text::Clauses, file, out),
+        b'h' => print_header(out, file),
+        _ => print_digest(out, file),
     }
 }
 
 // Prints the first part of a sheet's clause file.
-fn print_header(file: i32) {
+fn print_header(out: &mut impl Write, file: &mut impl Read) -> io::Result<()> {
     let mut input = [0u8; INPUT_BYTES];
-    let n = io::read_full(file, &mut input);
-    let mut out = [0u8; PART_BYTES];
-    let answer = clause_text(&input[..n], 0, &mut out);
-    print_part(answer, &out);
+    let n = read_input(file, &mut input)?;
+    let mut part = [0u8; PART_BYTES];
+    let answer = clause_text(&input[..n], 0, &mut part);
+    print_part(out, answer, &part)
 }
 
 // Prints a part where it was written.
-fn print_part(answer: PartAnswer, out: &[u8]) {
+fn print_part(out: &mut impl Write, answer: PartAnswer, part: &[u8]) -> io::Result<()> {
     if let PartAnswer::Written(bytes) = answer {
-        if bytes <= out.len() {
-            print(&out[0..bytes]);
+        if bytes <= part.len() {
+            print(out, &part[0..bytes])?;
         }
     }
+    Ok(())
 }
 
 // Prints the checksum of a sheet's clause file.
-fn print_digest(file: i32) {
+fn print_digest(out: &mut impl Write, file: &mut impl Read) -> io::Result<()> {
     let mut input = [0u8; INPUT_BYTES];
-    let n = io::read_full(file, &mut input);
-    print_number(b"", digest(&input[..n]));
-    print(b"\n");
+    let n = read_input(file, &mut input)?;
+    print_number(out, b"", digest(&input[..n]))?;
+    print(out, b"\n")
 }
 
 // The checksum of all parts that a clause file can have and one more, which every sheet refuses.

@@ -4,7 +4,6 @@
 // 0 but those listed. The changes are made one after the other. Each is tried before it is made, in buffers of three lengths, and held
 // against changing a copy and reporting on it. A case `claim ..` has two changes: the first is tried, and held against a copy that has
 // the second.
-
 #![tactic(auto)]
 
 mod trials;
@@ -16,21 +15,23 @@ use case_text::parse::{find, number, take_sheet};
 use case_text::print::{print, print_number, print_refused};
 use changing::{ChangeAnswer, change};
 use sheet_cases::print::{print_answer, print_changes};
+use std::io;
+use std::io::Write;
 
 // Room for the sheet of a case: one block more than any sheet has.
 const SHEET_BYTES: usize = 5120;
 
 // Answers one line: its name, and what it comes to.
-pub fn run_case(line: &[u8]) {
+pub fn run_case(out: &mut impl Write, line: &[u8]) -> io::Result<()> {
     let colon = find(line, 0, b':');
-    print(&line[0..colon]);
-    print(b":");
-    take_case(line, colon);
-    print(b"\n");
+    print(out, &line[0..colon])?;
+    print(out, b":")?;
+    take_case(out, line, colon)?;
+    print(out, b"\n")
 }
 
 // Answers a case whose name ends at the colon.
-fn take_case(line: &[u8], colon: usize)
+fn take_case(out: &mut impl Write, line: &[u8], colon: usize) -> io::Result<()>
     requires { colon ≤ length line.now }
 {
     let semicolon = find(line, colon, b';');
@@ -38,69 +39,95 @@ fn take_case(line: &[u8], colon: usize)
     let length = take_sheet(&mut sheet, &line[0..semicolon], colon + 2);
     let mut copy = sheet;
     run_listed(
+        out,
         line,
         semicolon + 2,
         &mut sheet[0..length],
         &mut copy[0..length],
-    );
+    )
 }
 
 // Answers what a case lists from `from` on, for a sheet that is given with its copy.
-fn run_listed(line: &[u8], from: usize, sheet: &mut [u8], copy: &mut [u8])
+fn run_listed(
+    out: &mut impl Write,
+    line: &[u8],
+    from: usize,
+    sheet: &mut [u8],
+    copy: &mut [u8],
+) -> io::Result<()>
     requires { length copy.old ≡ length sheet.old }
 {
     if line.len() == 0 {
-        return;
+        return Ok(());
     }
     if line[0] == b'c' {
-        return run_claim(line, from, sheet, copy);
+        return run_claim(out, line, from, sheet, copy);
     }
-    run_changes(line, from, sheet, copy);
+    run_changes(out, line, from, sheet, copy)
 }
 
 // Holds the trial of one change against a copy that has another.
-fn run_claim(line: &[u8], from: usize, sheet: &[u8], copy: &mut [u8]) {
+fn run_claim(
+    out: &mut impl Write,
+    line: &[u8],
+    from: usize,
+    sheet: &[u8],
+    copy: &mut [u8],
+) -> io::Result<()> {
     let k = number(line, from);
     let difference = number(line, k.next);
     let other = number(line, difference.next);
     let stated = number(line, other.next);
     let made = change(copy, other.value, stated.value as u64);
-    print_trials(sheet, k.value, difference.value as u64, made, copy);
+    print_trials(out, sheet, k.value, difference.value as u64, made, copy)
 }
 
 // Makes one change after the other.
-fn run_changes(line: &[u8], from: usize, sheet: &mut [u8], copy: &mut [u8])
+fn run_changes(
+    out: &mut impl Write,
+    line: &[u8],
+    from: usize,
+    sheet: &mut [u8],
+    copy: &mut [u8],
+) -> io::Result<()>
     requires { length copy.old ≡ length sheet.old }
 {
     let mut next = from;
     while next < line.len() {
         let k = number(line, next);
         let difference = number(line, k.next);
-        run_change(sheet, copy, k.value, difference.value as u64);
+        run_change(out, sheet, copy, k.value, difference.value as u64)?;
         next = difference.next;
     }
+    Ok(())
 }
 
 // Changes the copy, with what comes of it, holds the trial against it, and then changes the sheet itself. Both should have the same
 // bytes now: any that the sheet has otherwise are printed.
-fn run_change(sheet: &mut [u8], copy: &mut [u8], k: usize, difference: u64)
+fn run_change(
+    out: &mut impl Write,
+    sheet: &mut [u8],
+    copy: &mut [u8],
+    k: usize,
+    difference: u64,
+) -> io::Result<()>
     requires { length copy.old ≡ length sheet.old }
 {
-    print_number(b"\n  line ", k as u64);
-    print_number(b" to ", difference);
+    print_number(out, b"\n  line ", k as u64)?;
+    print_number(out, b" to ", difference)?;
     let made = change(copy, k, difference);
-    print_made(made);
-    print_changes(sheet, copy);
-    print_answer(b", read", reading::read(copy));
-    print_trials(sheet, k, difference, made, copy);
+    print_made(out, made)?;
+    print_changes(out, sheet, copy)?;
+    print_answer(out, b", read", reading::read(copy))?;
+    print_trials(out, sheet, k, difference, made, copy)?;
     change(sheet, k, difference);
-    print_changes(copy, sheet);
+    print_changes(out, copy, sheet)
 }
 
 // The answer of `changing::change`: ` changed`, or a refusal.
-pub fn print_made(made: ChangeAnswer) {
+pub fn print_made(out: &mut impl Write, made: ChangeAnswer) -> io::Result<()> {
     match made {
-        ChangeAnswer::Changed => print(b" changed"),
-        ChangeAnswer::Refused(refusal) => print_refused(refusal.number, refusal.place),
+        ChangeAnswer::Changed => print(out, b" changed"),
+        ChangeAnswer::Refused(refusal) => print_refused(out, refusal.number, refusal.place),
     }
 }

@@ -4,7 +4,6 @@
 // but those listed. The list has COUNT numbers; those that the line does not have are 0. It is applied with reply buffers of ROOM,
 // ROOM + 1 and ROOM + 6 bytes, each time to the sheet as it is given, and held against a copy that is changed once for each pair.
 // Where a second list follows, `COUNT NUMBER ..`, the copy has the changes of that one.
-
 #![tactic(auto)]
 
 mod replies;
@@ -14,6 +13,8 @@ ghost use Rattle.std.specs.Prelude.{◌≤◌, length};
 use crate::replies::print_buffers;
 use case_text::parse::{Numeral, find, number, take_sheet, take_words};
 use case_text::print::print;
+use std::io;
+use std::io::Write;
 
 // Room for the sheet of a case, one block more than any sheet has, and for a list.
 const SHEET_BYTES: usize = 5120;
@@ -21,26 +22,32 @@ const SHEET_BYTES: usize = 5120;
 const MOST_NUMBERS: usize = 640;
 
 // Answers one line: its name, and what it comes to.
-pub fn run_case(line: &[u8]) {
+pub fn run_case(out: &mut impl Write, line: &[u8]) -> io::Result<()> {
     let colon = find(line, 0, b':');
-    print(&line[0..colon]);
-    print(b":");
-    take_case(line, colon);
-    print(b"\n");
+    print(out, &line[0..colon])?;
+    print(out, b":")?;
+    take_case(out, line, colon)?;
+    print(out, b"\n")
 }
 
 // Answers a case whose name ends at the colon.
-fn take_case(line: &[u8], colon: usize)
+fn take_case(out: &mut impl Write, line: &[u8], colon: usize) -> io::Result<()>
     requires { colon ≤ length line.now }
 {
     let semicolon = find(line, colon, b';');
     let mut sheet = [0u8; SHEET_BYTES];
     let size = take_sheet(&mut sheet, &line[0..semicolon], colon + 2);
-    take_lists(line, semicolon + 2, sheet, size);
+    take_lists(out, line, semicolon + 2, sheet, size)
 }
 
 // Answers a case of a sheet. The length of its buffers and its lists start at `from`.
-fn take_lists(line: &[u8], from: usize, sheet: [u8; SHEET_BYTES], size: usize)
+fn take_lists(
+    out: &mut impl Write,
+    line: &[u8],
+    from: usize,
+    sheet: [u8; SHEET_BYTES],
+    size: usize,
+) -> io::Result<()>
     requires { size ≤ 5120 }
 {
     let buffer = number(line, from);
@@ -50,12 +57,13 @@ fn take_lists(line: &[u8], from: usize, sheet: [u8; SHEET_BYTES], size: usize)
     let held = take_second(&mut others, line, list);
     let count = list.value;
     print_buffers(
+        out,
         sheet,
         size,
         &pairs[0..count],
         &others[0..held],
         buffer.value,
-    );
+    )
 }
 
 // Takes the list whose count stands at `from`, and tells the count and the position after it. One that is too long is left out.

@@ -7,8 +7,9 @@ use case_text::checksum::with_bytes;
 use case_text::print::{print, print_bytes, print_number, print_refused};
 use changing::{ChangeAnswer, change};
 use changing_all::{ChangesAnswer, change_all};
-use check::same;
 use sheet_cases::print::{print_answer, print_changes};
+use std::io;
+use std::io::Write;
 
 // Room for a reply buffer, and the most bytes that a case asks for: its longest buffer has six more.
 const REPLY_BYTES: usize = 512;
@@ -20,93 +21,121 @@ const FEW_PAIRS: usize = 8;
 
 // A buffer of so many bytes, one that is a byte longer, and one that is six bytes longer. The copy has the changes of the other list.
 pub fn print_buffers(
+    out: &mut impl Write,
     sheet: [u8; SHEET_BYTES],
     size: usize,
     pairs: &[u64],
     others: &[u64],
     room: usize,
-)
+) -> io::Result<()>
     requires { size ≤ 5120 }
 {
     if MOST_BYTES < room {
-        return print(b" too long");
+        return print(out, b" too long");
     }
-    print_buffer(sheet, size, pairs, others, room);
-    print_buffer(sheet, size, pairs, others, room + 1);
-    print_buffer(sheet, size, pairs, others, room + 6);
+    print_buffer(out, sheet, size, pairs, others, room)?;
+    print_buffer(out, sheet, size, pairs, others, room + 1)?;
+    print_buffer(out, sheet, size, pairs, others, room + 6)
 }
 
 // What is answered for a buffer of so many bytes. It has a sheet of its own, which no other changes.
-fn print_buffer(sheet: [u8; SHEET_BYTES], size: usize, pairs: &[u64], others: &[u64], room: usize)
+fn print_buffer(
+    out: &mut impl Write,
+    sheet: [u8; SHEET_BYTES],
+    size: usize,
+    pairs: &[u64],
+    others: &[u64],
+    room: usize,
+) -> io::Result<()>
     requires { (size ≤ 5120) × (room ≤ 512) }
 {
     let mut changed = sheet;
     let mut copy = sheet;
-    print_number(b"\n  buffer of ", room as u64);
+    print_number(out, b"\n  buffer of ", room as u64)?;
     run_list(
+        out,
         &mut changed[0..size],
         &mut copy[0..size],
         pairs,
         others,
         room,
-    );
+    )
 }
 
 // Applies a list to a sheet, and tells what comes of it. Before, each byte of the buffer is A5, and each behind it.
-fn run_list(sheet: &mut [u8], copy: &mut [u8], pairs: &[u64], others: &[u64], room: usize)
+fn run_list(
+    out: &mut impl Write,
+    sheet: &mut [u8],
+    copy: &mut [u8],
+    pairs: &[u64],
+    others: &[u64],
+    room: usize,
+) -> io::Result<()>
     requires { (length copy.old ≡ length sheet.old) × (room ≤ 512) }
 {
     let mut replies = [0xA5u8; REPLY_BYTES];
     let answer = change_all(sheet, pairs, &mut replies[0..room]);
-    print_replied(answer, &replies);
-    print_apart(pairs, copy, sheet);
+    print_replied(out, answer, &replies)?;
+    print_apart(out, pairs, copy, sheet)?;
     if let ChangesAnswer::Replied(_) = answer {
-        print_held(sheet, &replies, others, copy);
+        print_held(out, sheet, &replies, others, copy)?;
     }
+    Ok(())
 }
 
 // The answer of `changing_all::change_all`, ` replied PAIRS [REPLIES]` or a refusal; and a checksum of what it changed in the buffer
 // and behind it, 0 where it changed nothing.
-fn print_replied(answer: ChangesAnswer, replies: &[u8; REPLY_BYTES]) {
+fn print_replied(
+    out: &mut impl Write,
+    answer: ChangesAnswer,
+    replies: &[u8; REPLY_BYTES],
+) -> io::Result<()> {
     match answer {
         ChangesAnswer::Replied(count) => {
-            print_number(b" replied ", count as u64);
-            print_first(replies, count);
+            print_number(out, b" replied ", count as u64)?;
+            print_first(out, replies, count)?;
         }
-        ChangesAnswer::Refused(refusal) => print_refused(refusal.number, refusal.place),
+        ChangesAnswer::Refused(refusal) => print_refused(out, refusal.number, refusal.place)?,
     }
-    print_number(b", checksum ", with_bytes(0, replies, 0xA5));
+    print_number(out, b", checksum ", with_bytes(0, replies, 0xA5))
 }
 
 // A buffer's first bytes.
-fn print_first(bytes: &[u8], count: usize) {
+fn print_first(out: &mut impl Write, bytes: &[u8], count: usize) -> io::Result<()> {
     if count <= bytes.len() {
-        print(b" [");
-        print_bytes(&bytes[0..count]);
-        print(b"]");
+        print(out, b" [")?;
+        print_bytes(out, &bytes[0..count])?;
+        print(out, b"]")?;
     }
+    Ok(())
 }
 
 // The bytes that changed in the sheet; of a long list a checksum of all that it has now.
-fn print_apart(pairs: &[u64], before: &[u8], after: &[u8])
+fn print_apart(out: &mut impl Write, pairs: &[u64], before: &[u8], after: &[u8]) -> io::Result<()>
     requires { length before.now ≡ length after.now }
 {
     if pairs.len() / 2 <= FEW_PAIRS {
-        print(b", bytes");
-        return print_changes(before, after);
+        print(out, b", bytes")?;
+        return print_changes(out, before, after);
     }
-    print_number(b", sheet ", with_bytes(0, after, 0));
+    print_number(out, b", sheet ", with_bytes(0, after, 0))
 }
 
 // What reading says of the sheet, and whether sheet and replies are those of a copy with the changes of a list, made one by one.
-fn print_held(changed: &[u8], replies: &[u8; REPLY_BYTES], others: &[u64], copy: &mut [u8]) {
-    print_answer(b", read", reading::read(changed));
+fn print_held(
+    out: &mut impl Write,
+    changed: &[u8],
+    replies: &[u8; REPLY_BYTES],
+    others: &[u64],
+    copy: &mut [u8],
+) -> io::Result<()> {
+    print_answer(out, b", read", reading::read(changed))?;
     let mut wanted = [0xA5u8; REPLY_BYTES];
     change_singly(copy, others, &mut wanted);
-    if same(changed, copy) && same(replies, &wanted) {
-        return print(b", as one by one");
+    if changed == &*copy && replies == &wanted {
+        return print(out, b", as one by one");
     }
-    print(b", not as one by one");
+    print(out, b", not as one by one")
 }
 
 // Makes the changes of a list one by one, and notes a reply for each.

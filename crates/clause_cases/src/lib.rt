@@ -7,7 +7,6 @@
 // - `pairs ..: SHEET`, the satisfying assignments and the starting values that follow;
 // - `start ..: COUNT WORD WORD .. SHEET`, two runs from COUNT words;
 // - `whole ..: SHEET`, a checksum of all lines' lists.
-
 #![tactic(auto)]
 
 pub mod following;
@@ -24,29 +23,31 @@ use crate::starts::run_start;
 use crate::whole::run_whole;
 use case_text::parse::find;
 use case_text::print::print;
+use std::io;
+use std::io::Write;
 
 // Room for the sheet of a case: one block more than any sheet has.
 const SHEET_BYTES: usize = 5120;
 
 // Answers one line: its name, and what it comes to.
-pub fn run_case(line: &[u8]) {
+pub fn run_case(out: &mut impl Write, line: &[u8]) -> io::Result<()> {
     let colon = find(line, 0, b':');
-    print(&line[0..colon]);
-    print(b":");
-    answer(line, colon + 2);
-    print(b"\n");
+    print(out, &line[0..colon])?;
+    print(out, b":")?;
+    answer(out, line, colon + 2)?;
+    print(out, b"\n")
 }
 
 // What stands after a case's name. Its numbers start at `from`.
-fn answer(line: &[u8], from: usize) {
+fn answer(out: &mut impl Write, line: &[u8], from: usize) -> io::Result<()> {
     if line.len() == 0 {
-        return;
+        return Ok(());
     }
     let letter = line[0];
     match letter {
-        b'l' => run_list(line, from),
-        b'p' => run_pairs(line, from),
-        b's' => run_start(line, from),
-        _ => run_whole(line, from),
+        b'l' => run_list(out, line, from),
+        b'p' => run_pairs(out, line, from),
+        b's' => run_start(out, line, from),
+        _ => run_whole(out, line, from),
     }
 }

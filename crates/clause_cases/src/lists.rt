@@ -6,6 +6,8 @@ use crate::print::print_numbers;
 use case_text::parse::{number, take_sheet};
 use case_text::print::{print, print_number, print_refused};
 use clauses::{ListAnswer, line_list};
+use std::io;
+use std::io::Write;
 
 // The longest list of a case; the most of any list is 4,944.
 const MOST_NUMBERS: usize = 1024;
@@ -13,21 +15,21 @@ const MOST_NUMBERS: usize = 1024;
 const BUFFER_NUMBERS: usize = 1027;
 
 // Answers a case `K SHEET`.
-pub fn run_list(line: &[u8], from: usize) {
+pub fn run_list(out: &mut impl Write, line: &[u8], from: usize) -> io::Result<()> {
     let k = number(line, from);
     let mut sheet = [0u8; SHEET_BYTES];
     let length = take_sheet(&mut sheet, line, k.next);
-    print_lists(&sheet[0..length], k.value);
+    print_lists(out, &sheet[0..length], k.value)
 }
 
 // A buffer one number short of the need, one that just holds the list, and a longer one.
-fn print_lists(sheet: &[u8], k: usize) {
+fn print_lists(out: &mut impl Write, sheet: &[u8], k: usize) -> io::Result<()> {
     let need = need_of(sheet, k);
     if 0 < need {
-        print_buffer(sheet, k, need - 1);
+        print_buffer(out, sheet, k, need - 1)?;
     }
-    print_buffer(sheet, k, need);
-    print_buffer(sheet, k, need + 3);
+    print_buffer(out, sheet, k, need)?;
+    print_buffer(out, sheet, k, need + 3)
 }
 
 // How many numbers the list of line k has; 0 where there is none.
@@ -47,20 +49,20 @@ fn need_of(sheet: &[u8], k: usize) -> usize
 }
 
 // What is answered for a buffer of a length. Before, each of its numbers is 7.
-fn print_buffer(sheet: &[u8], k: usize, length: usize)
+fn print_buffer(out: &mut impl Write, sheet: &[u8], k: usize, length: usize) -> io::Result<()>
     requires { length ≤ 1027 }
 {
     let mut buffer = [7i32; BUFFER_NUMBERS];
-    print_number(b"\n  buffer of ", length as u64);
-    print_list(sheet, k, &mut buffer[0..length]);
+    print_number(out, b"\n  buffer of ", length as u64)?;
+    print_list(out, sheet, k, &mut buffer[0..length])
 }
 
 // The answer of `clauses::line_list`, ` written NUMBERS` or a refusal, and the numbers of the buffer afterwards.
-fn print_list(sheet: &[u8], k: usize, buffer: &mut [i32]) {
+fn print_list(out: &mut impl Write, sheet: &[u8], k: usize, buffer: &mut [i32]) -> io::Result<()> {
     match line_list(sheet, k, buffer) {
-        ListAnswer::Written(numbers) => print_number(b" written ", numbers as u64),
-        ListAnswer::Refused(refusal) => print_refused(refusal.number, refusal.place),
+        ListAnswer::Written(numbers) => print_number(out, b" written ", numbers as u64)?,
+        ListAnswer::Refused(refusal) => print_refused(out, refusal.number, refusal.place)?,
     }
-    print(b":");
-    print_numbers(buffer);
+    print(out, b":")?;
+    print_numbers(out, buffer)
 }

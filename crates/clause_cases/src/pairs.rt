@@ -7,34 +7,36 @@ use answers::Reading;
 use case_text::parse::take_sheet;
 use case_text::print::{print, print_number, print_refused};
 use clauses::{CountsAnswer, clause_counts};
+use std::io;
+use std::io::Write;
 
 // Answers a case `SHEET`.
-pub fn run_pairs(line: &[u8], from: usize) {
+pub fn run_pairs(out: &mut impl Write, line: &[u8], from: usize) -> io::Result<()> {
     let mut sheet = [0u8; SHEET_BYTES];
     let length = take_sheet(&mut sheet, line, from);
-    print_pairs(&sheet[0..length]);
+    print_pairs(out, &sheet[0..length])
 }
 
 // Both counts of a sheet, then the pairs.
-fn print_pairs(sheet: &[u8]) {
+fn print_pairs(out: &mut impl Write, sheet: &[u8]) -> io::Result<()> {
     match clause_counts(sheet) {
         CountsAnswer::Given(counts) => {
-            print_counts(counts);
-            print_small(sheet, counts.variables);
+            print_counts(out, counts)?;
+            print_small(out, sheet, counts.variables)
         }
-        CountsAnswer::Refused(refusal) => print_refused(refusal.number, refusal.place),
+        CountsAnswer::Refused(refusal) => print_refused(out, refusal.number, refusal.place),
     }
 }
 
 // The pairs of a sheet with so many variables, where there are few enough to count.
-fn print_small(sheet: &[u8], variables: u32) {
+fn print_small(out: &mut impl Write, sheet: &[u8], variables: u32) -> io::Result<()> {
     let Reading::Accepted(header) = reading::read(sheet) else {
-        return;
+        return Ok(());
     };
     if 20 < variables {
-        return print(b", not counted");
+        return print(out, b", not counted");
     }
     let satisfying = count_satisfying(sheet, header.lines, variables);
-    print_number(b", satisfying ", satisfying);
-    print_following(sheet);
+    print_number(out, b", satisfying ", satisfying)?;
+    print_following(out, sheet)
 }

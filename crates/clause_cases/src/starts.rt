@@ -4,44 +4,51 @@ use case_text::parse::{number, take_sheet, take_words};
 use case_text::print::{print, print_number, print_refused};
 use runs::{RunsAnswer, two_runs};
 use sheet_runs::RunsOutcome;
+use std::io;
+use std::io::Write;
 
 // More words than any sheet has inputs.
 const MOST_WORDS: usize = 16;
 
 // Answers a case `COUNT WORD WORD .. SHEET`.
-pub fn run_start(line: &[u8], from: usize) {
+pub fn run_start(out: &mut impl Write, line: &[u8], from: usize) -> io::Result<()> {
     let size = number(line, from);
     let count = size.value;
     if MOST_WORDS < count {
-        return print(b" too many");
+        return print(out, b" too many");
     }
     let mut words = [0u64; MOST_WORDS];
-    print_start(line, size.next, &mut words[0..count]);
+    print_start(out, line, size.next, &mut words[0..count])
 }
 
 // What is answered for as many words as there is room for, and the sheet after them.
-fn print_start(line: &[u8], from: usize, words: &mut [u64]) {
+fn print_start(
+    out: &mut impl Write,
+    line: &[u8],
+    from: usize,
+    words: &mut [u64],
+) -> io::Result<()> {
     let next = take_words(words, line, from);
     let mut sheet = [0u8; SHEET_BYTES];
     let length = take_sheet(&mut sheet, line, next);
-    print_runs(two_runs(&sheet[0..length], words));
+    print_runs(out, two_runs(&sheet[0..length], words))
 }
 
 // The answer of `runs::two_runs`: ` follows`, ` disagree LINE BIT`, or a refusal.
-fn print_runs(answer: RunsAnswer) {
+fn print_runs(out: &mut impl Write, answer: RunsAnswer) -> io::Result<()> {
     match answer {
-        RunsAnswer::Given(outcome) => print_outcome(outcome),
-        RunsAnswer::Refused(refusal) => print_refused(refusal.number, refusal.place),
+        RunsAnswer::Given(outcome) => print_outcome(out, outcome),
+        RunsAnswer::Refused(refusal) => print_refused(out, refusal.number, refusal.place),
     }
 }
 
 // What two runs come to.
-fn print_outcome(outcome: RunsOutcome) {
+fn print_outcome(out: &mut impl Write, outcome: RunsOutcome) -> io::Result<()> {
     match outcome {
-        RunsOutcome::Follows => print(b" follows"),
+        RunsOutcome::Follows => print(out, b" follows"),
         RunsOutcome::Disagree(line, bit) => {
-            print_number(b" disagree ", line as u64);
-            print_number(b" ", bit as u64);
+            print_number(out, b" disagree ", line as u64)?;
+            print_number(out, b" ", bit as u64)
         }
     }
 }

@@ -6,6 +6,8 @@ use case_text::parse::take_sheet;
 use case_text::print::{print_number, print_refused};
 use clauses::{CountsAnswer, ListAnswer, clause_counts, line_list};
 use literal_text::magnitude;
+use std::io;
+use std::io::Write;
 use std::num::wrapping_add_u64;
 
 // The lines of the longest sheet, and the numbers of the longest list.
@@ -21,22 +23,22 @@ struct Fold {
 }
 
 // Answers a case `SHEET`.
-pub fn run_whole(line: &[u8], from: usize) {
+pub fn run_whole(out: &mut impl Write, line: &[u8], from: usize) -> io::Result<()> {
     let mut sheet = [0u8; SHEET_BYTES];
     let length = take_sheet(&mut sheet, line, from);
-    print_whole(&sheet[0..length]);
+    print_whole(out, &sheet[0..length])
 }
 
 // Both counts of a sheet, and what its lists come to.
-fn print_whole(sheet: &[u8]) {
+fn print_whole(out: &mut impl Write, sheet: &[u8]) -> io::Result<()> {
     match clause_counts(sheet) {
         CountsAnswer::Given(counts) => {
-            print_counts(counts);
+            print_counts(out, counts)?;
             let fold = fold_lists(sheet);
-            print_number(b", numbers ", fold.numbers);
-            print_number(b", checksum ", fold.checksum);
+            print_number(out, b", numbers ", fold.numbers)?;
+            print_number(out, b", checksum ", fold.checksum)
         }
-        CountsAnswer::Refused(refusal) => print_refused(refusal.number, refusal.place),
+        CountsAnswer::Refused(refusal) => print_refused(out, refusal.number, refusal.place),
     }
 }
 

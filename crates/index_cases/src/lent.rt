@@ -8,45 +8,57 @@ use case_text::print::{print, print_number};
 use change_cases::print_made;
 use changing::{ChangeAnswer, change};
 use changing_indexed::change_indexed;
-use check::same;
 use indexing::IndexAnswer;
 use report::{BufferAnswer, write_reports};
 use sheet_cases::print::print_changes;
+use std::io;
+use std::io::Write;
 
 // Makes one change after the other.
 pub fn run_changes(
+    out: &mut impl Write,
     line: &[u8],
     from: usize,
     sheet: &mut [u8],
     copy: &mut [u8],
     index: &[u16],
     report: &mut [u8],
-)
+) -> io::Result<()>
     requires { length copy.old ≡ length sheet.old }
 {
     let mut next = from;
     while next < line.len() {
         let k = number(line, next);
         let difference = number(line, k.next);
-        run_change(sheet, copy, index, report, k.value, difference.value as u64);
+        run_change(
+            out,
+            sheet,
+            copy,
+            index,
+            report,
+            k.value,
+            difference.value as u64,
+        )?;
         next = difference.next;
     }
+    Ok(())
 }
 
 // Makes a change, of the copy as well where it is made.
 fn run_change(
+    out: &mut impl Write,
     sheet: &mut [u8],
     copy: &mut [u8],
     index: &[u16],
     report: &mut [u8],
     k: usize,
     difference: u64,
-)
+) -> io::Result<()>
     requires { length copy.old ≡ length sheet.old }
 {
-    let made = print_call(sheet, copy, index, report, k, difference);
+    let made = print_call(out, sheet, copy, index, report, k, difference)?;
     change_if(made, copy, k, difference);
-    print_held(sheet, copy, index, report);
+    print_held(out, sheet, copy, index, report)
 }
 
 // Changes a sheet where a change was made.
@@ -58,13 +70,14 @@ fn change_if(made: ChangeAnswer, sheet: &mut [u8], k: usize, difference: u64) {
 
 // Makes one change, and holds it against a copy that has another.
 pub fn run_claim(
+    out: &mut impl Write,
     line: &[u8],
     from: usize,
     sheet: &mut [u8],
     copy: &mut [u8],
     index: &[u16],
     report: &mut [u8],
-)
+) -> io::Result<()>
     requires { length copy.old ≡ length sheet.old }
 {
     let k = number(line, from);
@@ -72,60 +85,77 @@ pub fn run_claim(
     let other = number(line, difference.next);
     let stated = number(line, other.next);
     change(copy, other.value, stated.value as u64);
-    print_claim(sheet, copy, index, report, k.value, difference.value as u64);
+    print_claim(
+        out,
+        sheet,
+        copy,
+        index,
+        report,
+        k.value,
+        difference.value as u64,
+    )
 }
 
 // Makes a change of a sheet, and then of the copy, lent what the first call left.
 fn print_claim(
+    out: &mut impl Write,
     sheet: &mut [u8],
     copy: &mut [u8],
     index: &[u16],
     report: &mut [u8],
     k: usize,
     difference: u64,
-)
+) -> io::Result<()>
     requires { length copy.old ≡ length sheet.old }
 {
-    print_call(sheet, copy, index, report, k, difference);
-    print_held(sheet, copy, index, report);
-    print_call(copy, sheet, index, report, k, difference);
+    print_call(out, sheet, copy, index, report, k, difference)?;
+    print_held(out, sheet, copy, index, report)?;
+    print_call(out, copy, sheet, index, report, k, difference)?;
+    Ok(())
 }
 
 // The answer of `changing_indexed::change_indexed`, the bytes that the sheet then has and another has not, and a checksum of the
 // report.
 fn print_call(
+    out: &mut impl Write,
     sheet: &mut [u8],
     other: &[u8],
     index: &[u16],
     report: &mut [u8],
     k: usize,
     difference: u64,
-) -> ChangeAnswer
+) -> io::Result<ChangeAnswer>
     requires { length other.now ≡ length sheet.old }
 {
-    print_number(b"\n  line ", k as u64);
-    print_number(b" to ", difference);
+    print_number(out, b"\n  line ", k as u64)?;
+    print_number(out, b" to ", difference)?;
     let made = change_indexed(sheet, index, report, k, difference);
-    print_made(made);
-    print_changes(other, sheet);
-    print_number(b", report ", with_bytes(0, report, 0));
-    made
+    print_made(out, made)?;
+    print_changes(out, other, sheet)?;
+    print_number(out, b", report ", with_bytes(0, report, 0))?;
+    Ok(made)
 }
 
 // Whether the sheet is the copy, and index and report are those made afresh of it.
-fn print_held(sheet: &[u8], copy: &[u8], index: &[u16], report: &[u8]) {
-    print_same(b"; sheet", same(sheet, copy));
-    print_same(b", index", is_index_of(copy, index));
-    print_same(b", report", is_report_of(copy, report));
+fn print_held(
+    out: &mut impl Write,
+    sheet: &[u8],
+    copy: &[u8],
+    index: &[u16],
+    report: &[u8],
+) -> io::Result<()> {
+    print_same(out, b"; sheet", sheet == copy)?;
+    print_same(out, b", index", is_index_of(copy, index))?;
+    print_same(out, b", report", is_report_of(copy, report))
 }
 
 // What a comparison comes to, after a text.
-fn print_same(text: &[u8], is_same: bool) {
-    print(text);
+fn print_same(out: &mut impl Write, text: &[u8], is_same: bool) -> io::Result<()> {
+    print(out, text)?;
     if is_same {
-        return print(b" same");
+        return print(out, b" same");
     }
-    print(b" other");
+    print(out, b" other")
 }
 
 // Whether an index is that of a sheet. A sheet that is refused has none.
@@ -136,7 +166,7 @@ fn is_index_of(sheet: &[u8], index: &[u16]) -> bool {
             if MOST_NUMBERS < count {
                 return false;
             }
-            same_numbers(index, &fresh[0..count])
+            index == &fresh[0..count]
         }
         IndexAnswer::Refused(_) => false,
     }
@@ -150,21 +180,8 @@ fn is_report_of(sheet: &[u8], report: &[u8]) -> bool {
             if REPORT_ROOM < bytes {
                 return false;
             }
-            same(report, &fresh[0..bytes])
+            report == &fresh[0..bytes]
         }
         BufferAnswer::Refused(_) => false,
     }
-}
-
-// Whether two lists have the same numbers.
-fn same_numbers(one: &[u16], other: &[u16]) -> bool {
-    if one.len() != other.len() {
-        return false;
-    }
-    for i in 0..one.len() {
-        if one[i] != other[i] {
-            return false;
-        }
-    }
-    true
 }

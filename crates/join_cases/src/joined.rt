@@ -8,11 +8,19 @@ use joining::{JoinAnswer, join};
 use report_cases::whole::{lines_of, print_lines};
 use sheet_cases::print::print_changes;
 use sheet_cases::print_sealing;
+use std::io;
+use std::io::Write;
 
 // Joins two sheets, and tells of the joined one what the case asks for.
-pub fn print_joined(case: &[u8], first: &[u8], second: &[u8], names: &[u64]) {
+pub fn print_joined(
+    out: &mut impl Write,
+    case: &[u8],
+    first: &[u8],
+    second: &[u8],
+    names: &[u64],
+) -> io::Result<()> {
     if case.len() == 0 {
-        return;
+        return Ok(());
     }
     let letter = case[0];
     let zeros = [0u8; SHEET_BYTES];
@@ -20,22 +28,22 @@ pub fn print_joined(case: &[u8], first: &[u8], second: &[u8], names: &[u64]) {
     let length = join_into(first, second, names, &mut sheet);
     match letter {
         b'b' => {
-            print(b"\n  bytes");
-            print_changes(&zeros[0..length], &sheet[0..length]);
+            print(out, b"\n  bytes")?;
+            print_changes(out, &zeros[0..length], &sheet[0..length])
         }
         b'f' => {
-            print(b"\n  two runs");
-            print_following(&sheet[0..length]);
+            print(out, b"\n  two runs")?;
+            print_following(out, &sheet[0..length])
         }
         b'r' => {
             let lines = lines_of(&sheet[0..length]);
-            print_lines(&sheet[0..length], lines);
+            print_lines(out, &sheet[0..length], lines)
         }
         b's' => {
             let joined = sheet;
-            print_sealing(b"\n  seal", &mut sheet[0..length], &joined[0..length]);
+            print_sealing(out, b"\n  seal", &mut sheet[0..length], &joined[0..length])
         }
-        _ => {}
+        _ => Ok(()),
     }
 }
 

@@ -4,6 +4,8 @@ ghost use Rattle.std.specs.Prelude.{◌≤◌};
 use case_text::checksum::with_bytes;
 use case_text::print::{print, print_bytes, print_number, print_refused};
 use joining::{JoinAnswer, join};
+use std::io;
+use std::io::Write;
 
 // Room for a buffer, and the most bytes that a case asks for: its longest buffer has six more.
 const BUFFER_BYTES: usize = 5632;
@@ -11,42 +13,61 @@ const BUFFER_BYTES: usize = 5632;
 const MOST_BYTES: usize = 5626;
 
 // A buffer of a length, one that is a byte longer, and one that is six bytes longer.
-pub fn print_buffers(first: &[u8], second: &[u8], names: &[u64], length: usize) {
+pub fn print_buffers(
+    out: &mut impl Write,
+    first: &[u8],
+    second: &[u8],
+    names: &[u64],
+    length: usize,
+) -> io::Result<()> {
     if MOST_BYTES < length {
-        return print(b" too long");
+        return print(out, b" too long");
     }
-    print_buffer(first, second, names, length);
-    print_buffer(first, second, names, length + 1);
-    print_buffer(first, second, names, length + 6);
+    print_buffer(out, first, second, names, length)?;
+    print_buffer(out, first, second, names, length + 1)?;
+    print_buffer(out, first, second, names, length + 6)
 }
 
 // What is answered for a buffer of a length. Before, each of its bytes is A5.
-fn print_buffer(first: &[u8], second: &[u8], names: &[u64], length: usize)
+fn print_buffer(
+    out: &mut impl Write,
+    first: &[u8],
+    second: &[u8],
+    names: &[u64],
+    length: usize,
+) -> io::Result<()>
     requires { length ≤ 5632 }
 {
     let mut buffer = [0xA5u8; BUFFER_BYTES];
-    print_number(b"\n  buffer of ", length as u64);
-    print_join(first, second, names, &mut buffer[0..length]);
+    print_number(out, b"\n  buffer of ", length as u64)?;
+    print_join(out, first, second, names, &mut buffer[0..length])
 }
 
 // The answer of `joining::join`, ` written BYTES` with the bytes after them, or a refusal; and a checksum of what it changed, 0 where
 // it changed nothing.
-fn print_join(first: &[u8], second: &[u8], names: &[u64], buffer: &mut [u8]) {
+fn print_join(
+    out: &mut impl Write,
+    first: &[u8],
+    second: &[u8],
+    names: &[u64],
+    buffer: &mut [u8],
+) -> io::Result<()> {
     match join(first, second, names, buffer) {
         JoinAnswer::Written(bytes) => {
-            print_number(b" written ", bytes as u64);
-            print_rest(buffer, bytes);
+            print_number(out, b" written ", bytes as u64)?;
+            print_rest(out, buffer, bytes)?;
         }
-        JoinAnswer::Refused(refusal) => print_refused(refusal.number, refusal.place),
+        JoinAnswer::Refused(refusal) => print_refused(out, refusal.number, refusal.place)?,
     }
-    print_number(b", checksum ", with_bytes(0, buffer, 0xA5));
+    print_number(out, b", checksum ", with_bytes(0, buffer, 0xA5))
 }
 
 // The bytes from a position on.
-fn print_rest(buffer: &[u8], from: usize) {
+fn print_rest(out: &mut impl Write, buffer: &[u8], from: usize) -> io::Result<()> {
     if from <= buffer.len() {
-        print(b", rest [");
-        print_bytes(&buffer[from..]);
-        print(b"]");
+        print(out, b", rest [")?;
+        print_bytes(out, &buffer[from..])?;
+        print(out, b"]")?;
     }
+    Ok(())
 }

@@ -1,7 +1,7 @@
 -- What a part takes of the room that it was lent.
 use Prim.Native.Nat.{ℕ, ◌+◌, ◌-◌, ◌≤◌}
 use native.Mathlib.Omega.{arith}
-use mathlib.Core.Path.{◌≡◌, sym, ap, subst, ◌∙◌}
+use mathlib.Core.Path.{◌≡◌, sym, ap, ◌∙◌}
 use mathlib.Core.List.{List, ◌++◌, append-nil}
 use lib.ListN.{length, take, drop, length-drop, drop_of_length-le}
 use lib.Seq.{take_all}
@@ -14,9 +14,7 @@ use Rattle.text_parts.specs.declared.PartAnswer.TheVariants.{Written}
 use Rattle.text_parts.proofs.Calls.{part_within}
 use Rattle.clause_file.specs.Parts.{file_part, most_bytes}
 use Rattle.report_file.specs.Parts.{report_part}
-use Rattle.printing.specs.Texts.{text_call, HasRoom}
-use Rattle.printing.specs.declared.Gathered.{Gathered}
-use Rattle.printing.specs.declared.Gathered.TheVariants.{Bytes}
+use Rattle.printing.specs.Texts.{text_call}
 use Rattle.printing.specs.declared.Text.{Text}
 use Rattle.printing.specs.declared.Text.TheVariants.{Report, Clauses}
 
@@ -29,10 +27,6 @@ pub gathered_within : (text : Text) (s : List ℕ) (part a : ℕ) (out : List �
     → part_means r ≡ (text_call text s part (drop a out)).answer → a ≤ length out → a + n ≤ length out
 gathered_within text s part a out told e h =
     omega (arith, text_within text s part (drop a out) (sym (ap part_means told) ∙ e), length-drop a out)
-
--- what a match found has room
-pub found_room : (end : ℕ) {r : Gathered} {n : ℕ} → r ≡ Bytes n → HasRoom end r → n ≤ 65536 - most_bytes
-found_room end told h = (subst (HasRoom end) told h).0
 
 -- ---- the part of a buffer behind a position, as it is lent and comes back
 

@@ -1,6 +1,5 @@
-// What the programs do: they read a sheet from an open file and print a text of it on standard output, part by part (document 01,
-// "The programs"). No text is made here: `texts` makes it.
-
+// What the programs do: they read a sheet and print a text of it, part by part (document 01, "The programs"). No text is made here:
+// `texts` makes it.
 #![tactic(auto)]
 
 ghost use Rattle.std.specs.Prelude.{◌≡◌, ◌++◌, ◌≤◌, length, take, drop};
@@ -8,9 +7,10 @@ ghost use Rattle.text_parts.specs.Parts.{part_means};
 ghost use Rattle.printing.specs.Texts.{text_call, HasRoom};
 
 use answers::{Reading, Refusal, refusal_of};
-use libc::STDOUT_FILENO;
 use reading::read;
-use sheet_input::{Input, read_input};
+use sheet_input::read_input;
+use std::io;
+use std::io::{Read, Write};
 use text_parts::PartAnswer;
 use texts::{REFUSAL_BYTES, clause_text, refusal_text, report_text};
 
@@ -30,69 +30,48 @@ pub enum Text {
     Clauses,
 }
 
-// How many bytes are gathered; or that the text has ended, as a write failed.
-#[derive(Clone, Copy)]
-enum Gathered {
-    Bytes(usize),
-    Ended,
-}
-
-// Prints a text of the sheet that is read, or the refusal. Where a read fails there is no sheet: it says so on standard error, and
-// prints nothing.
-pub fn print(text: Text, file: i32) {
-    let mut input = [0u8; INPUT_BYTES];
-    let Input::Bytes(n) = read_input(file, &mut input) else {
-        os::fail(b"input");
-        return;
-    };
-    print_sheet(text, &input[0..n]);
+// Prints a text of the sheet that is read, or the refusal. Where a read fails there is no sheet, and nothing is printed.
+pub fn print(text: Text, input: &mut impl Read, output: &mut impl Write) -> io::Result<()> {
+    let mut sheet = [0u8; INPUT_BYTES];
+    let n = read_input(input, &mut sheet)?;
+    print_sheet(output, text, &sheet[0..n])
 }
 
 // Prints a text of a sheet, or the refusal.
-fn print_sheet(text: Text, sheet: &[u8]) {
+fn print_sheet(output: &mut impl Write, text: Text, sheet: &[u8]) -> io::Result<()> {
     let reading = read(sheet);
     let Reading::Accepted(header) = reading else {
-        print_refusal(refusal_of(reading));
-        return;
+        return print_refusal(output, refusal_of(reading));
     };
-    print_parts(text, sheet, header.lines);
+    print_parts(output, text, sheet, header.lines)
 }
 
 // Prints the parts of a text: one for each line, and one more. A refusal is printed and ends it, and so does a write that fails: after
 // a part that was not written whole nothing may follow, since a literal that is cut off and joins the next text would be another clause.
-fn print_parts(text: Text, sheet: &[u8], lines: usize)
+fn print_parts(output: &mut impl Write, text: Text, sheet: &[u8], lines: usize) -> io::Result<()>
     requires { lines ≤ 248 }
 {
     let mut out = [0u8; OUTPUT_BYTES];
     let mut end = 0;
-    let mut part = 0;
-    while part <= lines {
-        let answer = gather(text, sheet, part, &mut out, end);
-        let PartAnswer::Written(bytes) = answer else {
-            print_end(&out[0..end], answer);
-            return;
-        };
-        let Gathered::Bytes(next) = make_room(&out, end + bytes) else {
-            return;
-        };
-        end = next;
-        part += 1;
+    for part in 0..=lines {
+        match gather(text, sheet, part, &mut out, end) {
+            PartAnswer::Written(bytes) => end = make_room(output, &out, end + bytes)?,
+            PartAnswer::Refused(refusal) => return print_end(output, &out[0..end], refusal),
+        }
     }
-    write_out(&out[0..end]);
+    output.write_all(&out[0..end])
 }
 
-// What is gathered, once there is room for another part behind it: it is written out where there may be too little.
-fn make_room(out: &[u8], end: usize) -> Gathered
+// How much is gathered, once there is room for another part behind it: it is written out where there may be too little.
+fn make_room(output: &mut impl Write, out: &[u8], end: usize) -> io::Result<usize>
     requires { end ≤ length out.now }
     ensures { HasRoom end result }
 {
     if end <= OUTPUT_BYTES - PART_BYTES {
-        return Gathered::Bytes(end);
+        return Ok(end);
     }
-    if write_out(&out[0..end]) {
-        return Gathered::Bytes(0);
-    }
-    Gathered::Ended
+    output.write_all(&out[0..end])?;
+    Ok(0)
 }
 
 // Writes a part of a text behind what is gathered.
@@ -116,26 +95,14 @@ fn part_text(text: Text, sheet: &[u8], part: usize, out: &mut [u8]) -> PartAnswe
 }
 
 // Prints what was gathered before a refusal, then the refusal.
-fn print_end(gathered: &[u8], answer: PartAnswer) {
-    if write_out(gathered) {
-        if let PartAnswer::Refused(refusal) = answer {
-            print_refusal(refusal);
-        }
-    }
+fn print_end(output: &mut impl Write, gathered: &[u8], refusal: Refusal) -> io::Result<()> {
+    output.write_all(gathered)?;
+    print_refusal(output, refusal)
 }
 
 // Prints a refusal.
-fn print_refusal(refusal: Refusal) {
+fn print_refusal(output: &mut impl Write, refusal: Refusal) -> io::Result<()> {
     let mut text = [0u8; REFUSAL_BYTES];
     let bytes = refusal_text(refusal, &mut text);
-    write_out(&text[0..bytes]);
-}
-
-// Writes bytes to standard output, all of them. Where that fails, says so on standard error.
-fn write_out(bytes: &[u8]) -> bool {
-    if io::write_all(STDOUT_FILENO, bytes) {
-        return true;
-    }
-    os::fail(b"standard output");
-    false
+    output.write_all(&text[0..bytes])
 }

@@ -7,9 +7,11 @@ use brute_force::count::operand_bits;
 use case_text::parse::number;
 use case_text::print::print;
 use differential::{Differential, Fitting, LineReport, Sixteenths, WholeBits};
+use std::io;
+use std::io::Write;
 
 // Answers a case `KIND WIDTH REPORT WEIGHT CHAINS N COUNT`, where REPORT is the report's number, and the weight of halves is in bits.
-pub fn run_claim(line: &[u8], from: usize) {
+pub fn run_claim(out: &mut impl Write, line: &[u8], from: usize) -> io::Result<()> {
     let kind = number(line, from);
     let width = number(line, kind.next);
     let report = number(line, width.next);
@@ -18,6 +20,7 @@ pub fn run_claim(line: &[u8], from: usize) {
     let fitting = number(line, chains.next);
     let count = number(line, fitting.next);
     print_claim(
+        out,
         differential_of(byte_of(kind.value), byte_of(width.value), 0, 0, 0, 0, 0),
         claimed(
             byte_of(report.value),
@@ -26,7 +29,7 @@ pub fn run_claim(line: &[u8], from: usize) {
             fitting.value as u64,
         ),
         count.value as u64,
-    );
+    )
 }
 
 // The report of these numbers.
@@ -45,16 +48,21 @@ fn small(value: usize) -> u32 {
 }
 
 // Whether a report agrees with a count.
-fn print_claim(d: Differential, report: LineReport, count: u64) {
+fn print_claim(
+    out: &mut impl Write,
+    d: Differential,
+    report: LineReport,
+    count: u64,
+) -> io::Result<()> {
     if 32 < d.width {
-        return print(b" not counted");
+        return print(out, b" not counted");
     }
     let bits = operand_bits(d);
     if 32 < bits {
-        return print(b" not counted");
+        return print(out, b" not counted");
     }
     if agrees(d, bits, report, count) {
-        return print(b" right");
+        return print(out, b" right");
     }
-    print(b" wrong");
+    print(out, b" wrong")
 }

@@ -8,16 +8,18 @@ use brute_force::count::largest;
 use case_text::parse::number;
 use case_text::print::print;
 use differential::Differential;
+use std::io;
+use std::io::Write;
 
 // Answers a case `KIND WIDTH`.
-pub fn run_every(line: &[u8], from: usize) {
+pub fn run_every(out: &mut impl Write, line: &[u8], from: usize) -> io::Result<()> {
     let kind = number(line, from);
     let width = number(line, kind.next);
     let n = byte_of(width.value);
     if 8 < n {
-        return print(b" not counted");
+        return print(out, b" not counted");
     }
-    print_tally(every(byte_of(kind.value), n));
+    print_tally(out, every(byte_of(kind.value), n))
 }
 
 // The tally of them all, by number: the stated difference in the lowest n bits, the first operand's difference in the n above

@@ -7,7 +7,6 @@
 // - `sheet ..: LENGTH OFFSET=VALUE ..`, a sheet of LENGTH bytes, all 0 but those listed, that is sealed first;
 // - `unsealed ..: LENGTH OFFSET=VALUE ..`, a sheet that is left as it is;
 // - `claim ..: KIND WIDTH REPORT WEIGHT CHAINS N COUNT`, a report and a count that are held against each other.
-
 #![tactic(auto)]
 
 mod claims;
@@ -24,27 +23,29 @@ use crate::one::run_one;
 use crate::whole::run_sheet;
 use case_text::parse::find;
 use case_text::print::print;
+use std::io;
+use std::io::Write;
 
 // Answers one line: its name, and what it comes to.
-pub fn run_case(line: &[u8]) {
+pub fn run_case(out: &mut impl Write, line: &[u8]) -> io::Result<()> {
     let colon = find(line, 0, b':');
-    print(&line[0..colon]);
-    print(b":");
-    answer(line, colon + 2);
-    print(b"\n");
+    print(out, &line[0..colon])?;
+    print(out, b":")?;
+    answer(out, line, colon + 2)?;
+    print(out, b"\n")
 }
 
 // What stands after a case's name. Its numbers start at `from`.
-fn answer(line: &[u8], from: usize) {
+fn answer(out: &mut impl Write, line: &[u8], from: usize) -> io::Result<()> {
     if line.len() == 0 {
-        return;
+        return Ok(());
     }
     let letter = line[0];
     match letter {
-        b'e' => run_every(line, from),
-        b'd' => run_one(line, from),
-        b's' => run_sheet(line, from, true),
-        b'c' => run_claim(line, from),
-        _ => run_sheet(line, from, false),
+        b'e' => run_every(out, line, from),
+        b'd' => run_one(out, line, from),
+        b's' => run_sheet(out, line, from, true),
+        b'c' => run_claim(out, line, from),
+        _ => run_sheet(out, line, from, false),
     }
 }

@@ -8,6 +8,8 @@ use case_text::parse::number;
 use case_text::print::{print, print_number, print_refused};
 use differential::{Differential, LineReport};
 use report::LineAnswer;
+use std::io;
+use std::io::Write;
 
 // The report, the number of operand values that fit, and whether the two agree; or that there is no report, or that there
 // are too many operand values to count.
@@ -38,19 +40,19 @@ pub fn compare(d: Differential) -> Outcome {
 }
 
 // Answers a case `KIND WIDTH AMOUNT CONSTANT FIRST SECOND DIFFERENCE`: the report, `count` with the count, and the verdict.
-pub fn run_one(line: &[u8], from: usize) {
+pub fn run_one(out: &mut impl Write, line: &[u8], from: usize) -> io::Result<()> {
     match compare(differential_in(line, from)) {
         Outcome::Reported(report, count, right) => {
-            print_report(report);
-            print_number(b", count ", count);
+            print_report(out, report)?;
+            print_number(out, b", count ", count)?;
             if right {
-                print(b", right");
+                print(out, b", right")
             } else {
-                print(b", wrong");
+                print(out, b", wrong")
             }
         }
-        Outcome::Refused(refusal) => print_refused(refusal.number, refusal.place),
-        Outcome::Uncounted => print(b" not counted"),
+        Outcome::Refused(refusal) => print_refused(out, refusal.number, refusal.place),
+        Outcome::Uncounted => print(out, b" not counted"),
     }
 }
 

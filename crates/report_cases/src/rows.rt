@@ -1,6 +1,8 @@
 // A report's numbers, as in the report buffer, and as text.
 use case_text::print::{print, print_number};
 use differential::{LineReport, WholeBits};
+use std::io;
+use std::io::Write;
 use units::in_sixteenths;
 
 #[derive(Clone, Copy)]
@@ -42,16 +44,16 @@ fn sixteenths_of(bits: WholeBits) -> u64 {
 }
 
 // A report as ` NAME WEIGHT CHAINS N`.
-pub fn print_report(report: LineReport) {
+pub fn print_report(out: &mut impl Write, report: LineReport) -> io::Result<()> {
     let row = row_of(report);
     let number = row.number;
     match number {
-        0 => print(b" impossible"),
-        1 => print(b" certain"),
-        2 => print(b" halves"),
-        _ => print(b" counted"),
+        0 => print(out, b" impossible")?,
+        1 => print(out, b" certain")?,
+        2 => print(out, b" halves")?,
+        _ => print(out, b" counted")?,
     }
-    print_number(b" ", row.weight);
-    print_number(b" ", row.chains);
-    print_number(b" ", row.fitting);
+    print_number(out, b" ", row.weight)?;
+    print_number(out, b" ", row.chains)?;
+    print_number(out, b" ", row.fitting)
 }

@@ -4,6 +4,8 @@ use crate::rows::{Row, row_of};
 use case_text::checksum::with_number;
 use case_text::print::print_number;
 use differential::LineReport;
+use std::io;
+use std::io::Write;
 use std::num::wrapping_add_u64;
 
 // How many there were, how many impossible, how many not as the count says; the sums of their numbers, modulo 2^64; and a
@@ -63,12 +65,12 @@ fn with_numbers(checksum: u64, row: Row) -> u64 {
 }
 
 // The tally as text.
-pub fn print_tally(tally: Tally) {
-    print_number(b" ", tally.differentials);
-    print_number(b", impossible ", tally.impossible);
-    print_number(b", wrong ", tally.wrong);
-    print_number(b", weight ", tally.weight);
-    print_number(b", chains ", tally.chains);
-    print_number(b", N ", tally.fitting);
-    print_number(b", checksum ", tally.checksum);
+pub fn print_tally(out: &mut impl Write, tally: Tally) -> io::Result<()> {
+    print_number(out, b" ", tally.differentials)?;
+    print_number(out, b", impossible ", tally.impossible)?;
+    print_number(out, b", wrong ", tally.wrong)?;
+    print_number(out, b", weight ", tally.weight)?;
+    print_number(out, b", chains ", tally.chains)?;
+    print_number(out, b", N ", tally.fitting)?;
+    print_number(out, b", checksum ", tally.checksum)
 }

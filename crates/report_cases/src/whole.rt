@@ -7,6 +7,8 @@ use case_text::parse::take_sheet;
 use case_text::print::{print, print_bytes, print_number, print_refused};
 use report::{BufferAnswer, LineAnswer, TotalsAnswer};
 use report_buffer::REPORT_BYTES;
+use std::io;
+use std::io::Write;
 
 // Room for a sheet, and for its report buffer.
 const SHEET_BYTES: usize = 5120;
@@ -14,15 +16,15 @@ const SHEET_BYTES: usize = 5120;
 const BUFFER_BYTES: usize = 4096;
 
 // Answers a case `LENGTH OFFSET=VALUE ..` on a sheet that is to be sealed first, or on one that is not.
-pub fn run_sheet(line: &[u8], from: usize, sealing: bool) {
+pub fn run_sheet(out: &mut impl Write, line: &[u8], from: usize, sealing: bool) -> io::Result<()> {
     let mut sheet = [0u8; SHEET_BYTES];
     let length = take_sheet(&mut sheet, line, from);
-    print_sealed(&mut sheet[0..length], sealing);
+    print_sealed(out, &mut sheet[0..length], sealing)
 }
 
-fn print_sealed(sheet: &mut [u8], sealing: bool) {
+fn print_sealed(out: &mut impl Write, sheet: &mut [u8], sealing: bool) -> io::Result<()> {
     seal_if(sealing, sheet);
-    print_sheet(sheet);
+    print_sheet(out, sheet)
 }
 
 // Seals a sheet, or leaves it as it is.
@@ -33,16 +35,16 @@ fn seal_if(sealing: bool, sheet: &mut [u8]) {
 }
 
 // All answers on a sheet. A buffer one byte short of the need, one that just holds the reports, and a longer one.
-fn print_sheet(sheet: &[u8]) {
+fn print_sheet(out: &mut impl Write, sheet: &[u8]) -> io::Result<()> {
     let lines = lines_of(sheet);
-    print_lines(sheet, lines);
-    print_totals(sheet);
+    print_lines(out, sheet, lines)?;
+    print_totals(out, sheet)?;
     let need = REPORT_BYTES * lines;
     if 0 < need {
-        print_buffer(sheet, need - 1);
+        print_buffer(out, sheet, need - 1)?;
     }
-    print_buffer(sheet, need);
-    print_buffer(sheet, need + 5);
+    print_buffer(out, sheet, need)?;
+    print_buffer(out, sheet, need + 5)
 }
 
 // The number of lines of an accepted sheet, else 0; more than a sheet can have are taken for the most.
@@ -61,53 +63,54 @@ pub fn lines_of(sheet: &[u8]) -> usize
 }
 
 // The reports of all lines, and of the line number after the last.
-pub fn print_lines(sheet: &[u8], lines: usize)
+pub fn print_lines(out: &mut impl Write, sheet: &[u8], lines: usize) -> io::Result<()>
     requires { lines ≤ 248 }
 {
     for k in 0..=lines {
-        print_number(b"\n  line ", k as u64);
-        print_line(sheet, k);
+        print_number(out, b"\n  line ", k as u64)?;
+        print_line(out, sheet, k)?;
     }
+    Ok(())
 }
 
 // The answer of `report::line_report`.
-fn print_line(sheet: &[u8], k: usize) {
+fn print_line(out: &mut impl Write, sheet: &[u8], k: usize) -> io::Result<()> {
     match report::line_report(sheet, k) {
-        LineAnswer::Given(report) => print_report(report),
-        LineAnswer::Refused(refusal) => print_refused(refusal.number, refusal.place),
+        LineAnswer::Given(report) => print_report(out, report),
+        LineAnswer::Refused(refusal) => print_refused(out, refusal.number, refusal.place),
     }
 }
 
 // The answer of `report::sheet_totals`: ` IMPOSSIBLE WEIGHT CHAINS`, or a refusal.
-fn print_totals(sheet: &[u8]) {
-    print(b"\n  totals");
+fn print_totals(out: &mut impl Write, sheet: &[u8]) -> io::Result<()> {
+    print(out, b"\n  totals")?;
     match report::sheet_totals(sheet) {
         TotalsAnswer::Given(totals) => {
             let cost = totals.weight;
-            print_number(b" ", totals.impossible as u64);
-            print_number(b" ", cost.0 as u64);
-            print_number(b" ", totals.chains as u64);
+            print_number(out, b" ", totals.impossible as u64)?;
+            print_number(out, b" ", cost.0 as u64)?;
+            print_number(out, b" ", totals.chains as u64)
         }
-        TotalsAnswer::Refused(refusal) => print_refused(refusal.number, refusal.place),
+        TotalsAnswer::Refused(refusal) => print_refused(out, refusal.number, refusal.place),
     }
 }
 
 // What is answered for a buffer of a length. Before, each of its bytes is A5.
-fn print_buffer(sheet: &[u8], length: usize)
+fn print_buffer(out: &mut impl Write, sheet: &[u8], length: usize) -> io::Result<()>
     requires { length ≤ 4096 }
 {
     let mut buffer = [0xA5u8; BUFFER_BYTES];
-    print_number(b"\n  buffer of ", length as u64);
-    print_reports(sheet, &mut buffer[0..length]);
+    print_number(out, b"\n  buffer of ", length as u64)?;
+    print_reports(out, sheet, &mut buffer[0..length])
 }
 
 // The answer of `report::write_reports`, ` written BYTES` or a refusal, and the bytes of the buffer afterwards.
-fn print_reports(sheet: &[u8], buffer: &mut [u8]) {
+fn print_reports(out: &mut impl Write, sheet: &[u8], buffer: &mut [u8]) -> io::Result<()> {
     match report::write_reports(sheet, buffer) {
-        BufferAnswer::Written(bytes) => print_number(b" written ", bytes as u64),
-        BufferAnswer::Refused(refusal) => print_refused(refusal.number, refusal.place),
+        BufferAnswer::Written(bytes) => print_number(out, b" written ", bytes as u64)?,
+        BufferAnswer::Refused(refusal) => print_refused(out, refusal.number, refusal.place)?,
     }
-    print(b" [");
-    print_bytes(buffer);
-    print(b"]");
+    print(out, b" [")?;
+    print_bytes(out, buffer)?;
+    print(out, b"]")
 }

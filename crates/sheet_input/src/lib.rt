@@ -1,41 +1,25 @@
-// Reading a sheet's bytes from an open file.
-
+// Reading a sheet's bytes.
 #![tactic(auto)]
 
 ghost use Rattle.std.specs.Prelude.{length};
-ghost use Rattle.sheet_input.specs.Input.{Within};
+ghost use Rattle.sheet_input.specs.Input.{Within, ReadsFront};
 
-// How many bytes were read; or that a read failed.
-#[derive(Clone, Copy)]
-pub enum Input {
-    Bytes(usize),
-    Failed,
-}
+use std::io;
+use std::io::Read;
 
-// Reads until the buffer is full or the file ends. A read that fails is no end: what came before it may be a whole sheet by chance.
-pub fn read_input(file: i32, buffer: &mut [u8]) -> Input
-    ensures { Within (length buffer.new) result }
+// Reads until the buffer is full or the input ends, and tells how many bytes were read. A read that fails is no end: what came before
+// it may be a whole sheet by chance.
+pub fn read_input<R: Read>(input: &mut R, buffer: &mut [u8]) -> io::Result<usize>
+    ensures within { Within (length buffer.new) result }
+    ensures front { ReadsFront (R.remaining input.old) (R.remaining input.new) result buffer.new }
 {
     let mut end = 0;
     while end < buffer.len() {
-        let Input::Bytes(more) = read_more(file, &mut buffer[end..]) else {
-            return Input::Failed;
-        };
+        let more = input.read(&mut buffer[end..])?;
         if more == 0 {
             break;
         }
         end += more;
     }
-    Input::Bytes(end)
-}
-
-// Reads once: no bytes at the file's end.
-fn read_more(file: i32, room: &mut [u8]) -> Input
-    ensures { Within (length room.new) result }
-{
-    let got = libc::read(file, room);
-    if got < 0 {
-        return Input::Failed;
-    }
-    Input::Bytes(io::count(got, room))
+    Ok(end)
 }

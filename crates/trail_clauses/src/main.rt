@@ -1,10 +1,9 @@
 // Reads a sheet from standard input and prints its clauses for a SAT solver.
-
 #![tactic(auto)]
 
-use libc::STDIN_FILENO;
 use printing::Text;
+use std::io;
 
-fn main() {
-    printing::print(Text::Clauses, STDIN_FILENO);
+fn main(rt: HostRuntime) -> io::Result<()> {
+    printing::print(Text::Clauses, &mut rt.stdin(), &mut rt.stdout())
 }

@@ -1,10 +1,9 @@
 // Reads a sheet from standard input and prints the report of every line, and the totals.
-
 #![tactic(auto)]
 
-use libc::STDIN_FILENO;
 use printing::Text;
+use std::io;
 
-fn main() {
-    printing::print(Text::Report, STDIN_FILENO);
+fn main(rt: HostRuntime) -> io::Result<()> {
+    printing::print(Text::Report, &mut rt.stdin(), &mut rt.stdout())
 }

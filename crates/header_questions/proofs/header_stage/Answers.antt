@@ -1,4 +1,5 @@
 -- The header's questions, asked in their order; the first whose answer is no ends the stage.
+use mathlib.Core.Path.{sym, ◌∙◌}
 use native.Mathlib.Omega.{arith}
 use Rattle.sheet.specs.Questions.{header_questions}
 use Rattle.sheet.proofs.FormSizes.{sizes}
@@ -22,12 +23,6 @@ pub returns-then-not-lines_right : goal.returns-then-not-lines_right
 unfolding header_questions
 returns-then-not-lines_right c = search stage depth 24
 
-pub inputs_right-requires : goal.inputs_right-requires
-inputs_right-requires c =
-    let wide = granted c.width_right.ensures c.if-not-width_right.false in
-    let size = sizes c.args.header.form in
-    (omega arith, omega (arith, within_least 2 _ _ wide), omega (arith, within_most 2 _ _ wide))
-
 pub returns-then-not-inputs_right : goal.returns-then-not-inputs_right
 unfolding header_questions
 returns-then-not-inputs_right c = search stage depth 24
@@ -39,3 +34,9 @@ returns-then-not-rest_zero c = search stage depth 24
 pub returns : goal.returns
 unfolding header_questions
 returns c = search stage depth 24
+
+pub inputs_right-requires : goal.inputs_right-requires
+inputs_right-requires c =
+    let wide = sym c.width_right.ensures ∙ c.if-not-width_right.false in
+    let size = sizes c.args.header.form in
+    (omega arith, omega (arith, within_least 2 _ _ wide), omega (arith, within_most 2 _ _ wide))

@@ -19,14 +19,8 @@ bounds-counts-first c =
     let read = c.requires.0 in
     omega (arith, first_word read c.loop-i.i c.loop-i-test.true c.line_at-line.ensures, words_most read)
 
-pub offset_bounds-counts-first : goal.offset_bounds-counts-first
-offset_bounds-counts-first c = omega (arith, bounds-counts-first c)
-
 pub overflow_add-counts : goal.overflow_add-counts
 overflow_add-counts c = omega (arith, first_small c.requires.0 c.loop-i.i c.loop-i-test.true c.line_at-line.ensures c.loop-i.invariant.1)
-
-pub bounds-counts-first-in-loop-i : goal.bounds-counts-first-in-loop-i
-bounds-counts-first-in-loop-i c = bounds-counts-first c.before
 
 pub bounds-counts-second : goal.bounds-counts-second
 bounds-counts-second c =
@@ -40,24 +34,6 @@ pub overflow_add-counts-then-names_another : goal.overflow_add-counts-then-names
 overflow_add-counts-then-names_another c =
     let another = sym c.names_another.ensures ∙ c.if-names_another.true in
     omega (arith, second_small c.requires.0 c.loop-i.i c.loop-i-test.true c.line_at-line.ensures c.loop-i.invariant.1 another)
-
-pub bounds-counts-second-then-names_another : goal.bounds-counts-second-then-names_another
-bounds-counts-second-then-names_another c = bounds-counts-second c.before
-
-pub loop-i-preserved : goal.loop-i-preserved
-loop-i-preserved c =
-    let h = c.loop-i in
-    let t = trail_of c.args.sheet.now in
-    let read = c.requires.0 in
-    let inside = c.loop-i-test.true in
-    let line = c.line_at-line.ensures in
-    let named = c.names_another.ensures in (
-      omega arith,
-      ⊎_elim
-          (λ w. subst (Kept most_words (users_before t (h.i + 1))) (sym w.2) (counted_two read h.i inside line h.invariant.1 (sym named ∙ w.0.taken)))
-          (λ w. subst (Kept most_words (users_before t (h.i + 1))) (sym w.1) (counted_one read h.i inside line h.invariant.1 (sym named ∙ w.0.left)))
-          c.if-names_another.branch,
-    )
 
 pub returns : goal.returns
 returns c =

@@ -23,9 +23,6 @@ loop-j-init c =
 pub bounds-starts-j : goal.bounds-starts-j
 bounds-starts-j c = omega (arith, c.requires.0.limits.inputs_most, c.requires.0.limits.lines_most)
 
-pub offset_bounds-starts-j : goal.offset_bounds-starts-j
-offset_bounds-starts-j c = omega (arith, bounds-starts-j c)
-
 pub overflow_cast-users : goal.overflow_cast-users
 overflow_cast-users c =
     let read = c.requires.0 in
@@ -39,9 +36,6 @@ overflow_cast-starts c =
     let read = c.requires.0 in
     let h = c.loop-j in
     omega (arith, h.invariant.1.next_is, part_inside (trail_of c.args.sheet.now) h.j (omega (arith, words_read read)), index_most read)
-
-pub bounds-starts-j-in-loop-j : goal.bounds-starts-j-in-loop-j
-bounds-starts-j-in-loop-j c = bounds-starts-j c.before
 
 pub offset_bounds-starts-j-in-loop-j : goal.offset_bounds-starts-j-in-loop-j
 offset_bounds-starts-j-in-loop-j c = omega (arith, bounds-starts-j-in-loop-j c)

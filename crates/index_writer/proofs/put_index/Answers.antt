@@ -25,9 +25,6 @@ loop-j-init c =
 pub bounds-starts-j : goal.bounds-starts-j
 bounds-starts-j c = omega (arith, c.requires.0.limits.inputs_most, c.requires.0.limits.lines_most)
 
-pub offset_bounds-starts-j : goal.offset_bounds-starts-j
-offset_bounds-starts-j c = omega (arith, bounds-starts-j c)
-
 pub overflow_add-at : goal.overflow_add-at
 overflow_add-at c =
     let read = c.requires.0 in

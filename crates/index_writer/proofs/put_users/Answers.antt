@@ -51,30 +51,6 @@ put_user-requires-then-names_another c =
     let fits = place_fits read one room _ h.i (second_word read h.i inside line another) then.0 then.1 in
     (fits.0, fits.1, fits.2, omega (arith, read.limits.lines_most))
 
-pub loop-i-preserved : goal.loop-i-preserved
-loop-i-preserved c =
-    let h = c.loop-i in
-    let read = c.requires.0 in
-    let room = c.requires.2 in
-    let inside = c.loop-i-test.true in
-    let line = c.line_at-line.ensures in
-    let next = first_next read h.i inside line in
-    let put = c.put_user.ensures in
-    let one = place_taken read h.invariant.2 room _ h.i (first_word read h.i inside line) next.0 next.1 put.0 put.1 in
-    let named = c.names_another.ensures in
-    ⊎_elim
-    (λ w.
-    let another = sym named ∙ w.0.taken in
-    let then = second_next read h.i inside line another in
-    let again = w.3.ensures in
-    let two = place_taken read one room _ h.i (second_word read h.i inside line another) then.0 then.1 (w.6 ∙ again.0) (w.7 ∙ again.1) in
-    let all = placed_as read (after_two read h.i inside line another) two in
-    (omega arith, all.stands.long, all))
-    (λ w.
-    let all = placed_as read (after_one read h.i inside line (sym named ∙ w.0.left)) one in
-    rw (w.1, w.2) (omega arith, all.stands.long, all))
-    c.if-names_another.branch
-
 pub returns : goal.returns
 returns c =
     let h = c.loop-i in

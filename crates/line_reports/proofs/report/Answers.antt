@@ -30,12 +30,6 @@ constant_report-requires c =
     let constant = line.constant_word (at_key (λ q. uses_constant q ≡ true) c.in-6.is refl) in
     (omega arith, omega arith, constant, proper.first_word, line.difference_word)
 
-pub returns-in-1-to-4 : goal.returns-in-1-to-4
-returns-in-1-to-4 c =
-    let rest = c.in_default-1.in_default-1-own.rest in
-    c.certain_if.ensures
-    ∙ sym (linear_report _ (linear_number _ c.if-kind-lt1.false c.if-kind-lt9.true rest.0.0.1 rest.0.1))
-
 pub returns-in-5 : goal.returns-in-5
 unfolding kind_of
 returns-in-5 c =
@@ -53,14 +47,19 @@ returns-in-9 c =
     c.words_report-in-9.ensures
     ∙ sym (report_by_lem _ (at_key (λ q. reporting q ≡ two_words turning_back) c.in-9.is refl))
 
+pub returns-in-1-to-4 : goal.returns-in-1-to-4
+returns-in-1-to-4 c =
+    c.certain_if.ensures
+    ∙ sym (linear_report _ (linear_number _ (omega arith) (omega arith) (λ e. omega arith) (λ e. omega arith)))
+
 pub returns-in_default : goal.returns-in_default
 unfolding report_of
 returns-in_default c =
     let d = c.args.d in
-    at_no_kind (λ q. impossible ≡ report_by (reporting q) d) (inl c.if-kind-lt1.true) refl
+    at_no_kind (λ q. impossible ≡ report_by (reporting q) d) (inl (omega arith)) refl
 
 pub returns-in_default-2 : goal.returns-in_default-2
 unfolding report_of
 returns-in_default-2 c =
     let d = c.args.d in
-    at_no_kind (λ q. impossible ≡ report_by (reporting q) d) (inr (over c.if-kind-lt9.false c.in_default-1.in_default-1-own.rest.1)) refl
+    at_no_kind (λ q. impossible ≡ report_by (reporting q) d) (inr (omega arith)) refl

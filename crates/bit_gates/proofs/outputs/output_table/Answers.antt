@@ -1,6 +1,6 @@
 -- Output 0 has the result's table, and a later one the next carry's.
 use Rattle.bit_gates.specs.Gates.{inputs_in, function_of, IsTable}
-use Rattle.bit_gates.proofs.OutputCounts.{at_first, at_later, some_carried}
+use Rattle.bit_gates.proofs.OutputCounts.{at_first, at_later, later_output, some_carried}
 use Rattle.bit_gates.proofs.outputs.output_table.Goals as goal
 
 pub carry_table-requires : goal.carry_table-requires
@@ -16,4 +16,5 @@ returns-then-j-eq0 c =
 pub returns-else-j-eq0 : goal.returns-else-j-eq0
 returns-else-j-eq0 c =
     let a = c.args in
-    at_later (λ j. IsTable (function_of a.run j) (inputs_in a.run a.i) c.carry_table.result) a.j c.if-j-eq0.false (λ k. c.carry_table.ensures)
+    at_later (λ j. IsTable (function_of a.run j) (inputs_in a.run a.i) c.carry_table.result) a.j c.if-j-eq0.false
+    (λ k. later_output a.run (λ f. IsTable f (inputs_in a.run a.i) c.carry_table.result) k c.carry_table.ensures)

@@ -1,7 +1,6 @@
 use Prim.Native.Nat.{◌-◌}
 use native.Mathlib.Omega.{arith}
 use mathlib.Core.Path.{◌≡◌, sym, ap, ◌∙◌}
-use mathlib.Core.Logic.{⊎_elim}
 use mathlib.Core.Bool.{true, false}
 use borrow.Author.Rules.{rules}
 use Rattle.words.specs.Below.{count}
@@ -13,6 +12,7 @@ use Rattle.clause_lists.specs.Variables.{adds}
 use Rattle.sheet.specs.Fields.{trail_of}
 use Rattle.clause_sizes.proofs.SheetCounts.{count_start, count_more}
 use Rattle.clause_sizes.proofs.counting.carried_before.Goals as goal
+use Rattle.clause_sizes.proofs.counting.carried_before.Goals.{then-has_carries, else-has_carries}
 
 pub loop-i-init : goal.loop-i-init
 loop-i-init c = (search rules, count_start _)
@@ -25,19 +25,20 @@ overflow_add-found c =
     let h = c.loop-i in
     omega (arith, count_le h.i (adds (trail_of c.args.sheet.now)))
 
+pub returns : goal.returns
+returns c =
+    let h = c.loop-i in
+    let e : h.i ≡ c.args.k = omega arith in
+    h.invariant.1 ∙ ap (λ n. count n (adds (trail_of c.args.sheet.now))) e
+
 pub loop-i-preserved : goal.loop-i-preserved
 loop-i-preserved c =
     let h = c.loop-i in
     let t = trail_of c.args.sheet.now in
     let same = ap (λ (l : Line). has_carries (kind_of l.kind)) (sym c.line_at-line.ensures) ∙ sym c.has_carries.ensures in (
       search rules,
-      ⊎_elim (λ w. count_more (adds t) h.i true h.invariant.1 (same ∙ w.0.taken) w.1)
-          (λ w. count_more (adds t) h.i false h.invariant.1 (same ∙ w.0.left) (w.1 ∙ omega arith))
-          c.if-has_carries.branch,
+      elim c.if-has_carries.branch [
+        | then-has_carries w ↦ count_more (adds t) h.i true h.invariant.1 (same ∙ w.if-has_carries.true) (omega arith)
+        | else-has_carries w ↦ count_more (adds t) h.i false h.invariant.1 (same ∙ w.if-has_carries.false) (omega arith)
+      ],
     )
-
-pub returns : goal.returns
-returns c =
-    let h = c.loop-i in
-    let e : h.i ≡ c.args.k = omega arith in
-    h.invariant.1 ∙ ap (λ n. count n (adds (trail_of c.args.sheet.now))) e

@@ -20,7 +20,7 @@ invariant-lines l =
     (l.k ≤ l.lines)
     × Made (trail_of l.sheet) l.start (input_count (trail_of l.sheet) + l.k) l.first
     × Made (trail_of l.sheet) (partner (trail_of l.sheet) l.start) (input_count (trail_of l.sheet) + l.k) l.second
-    × ((l : ℕ) → l < l.k → line_follows (trail_of l.sheet) l.start l ≡ true)
+    × ((i : ℕ) → i < l.k → line_follows (trail_of l.sheet) l.start i ≡ true)
 
 abbrev pub decreases-lines : goal.decreases-lines
 decreases-lines l = l.lines - l.k

@@ -30,18 +30,15 @@ loop-j-init c = (search rules, below_none _)
 pub is_word-requires : goal.is_word-requires
 is_word-requires c = (omega arith, omega (arith, (sizes c.args.header.form).width_fits))
 
+pub returns : goal.returns
+returns c t width inputs =
+    let x = c.args.start.now in
+    sym (start_yes t x (omega arith) (λ j l. rw width (c.loop-j.invariant.1 j (omega arith))))
+
 pub returns-then-not-is_word : goal.returns-then-not-is_word
 returns-then-not-is_word c t width inputs =
     let j = c.loop-j.j in
     let x = c.args.start.now in
     let is : is_start t x ≡ true → is_word c.args.header.width (get_or x j 0) ≡ true =
     λ s. lt-ltb (get_or x j 0) (2 ^ c.args.header.width) (rw width at (start_word t x s j (omega arith))) in
-    no_start t x (λ s. true≢false (sym (is s) ∙ sym c.is_IsWord.ensures ∙ not-true _ c.if-not-is_word.true))
-
-pub loop-j-preserved : goal.loop-j-preserved
-loop-j-preserved c = (search rules, below_more _ _ c.loop-j.invariant.1 (ltb-true _ _ (sym c.is_IsWord.ensures ∙ not-false _ c.if-not-is_word.false)))
-
-pub returns : goal.returns
-returns c t width inputs =
-    let x = c.args.start.now in
-    sym (start_yes t x (omega arith) (λ j l. rw width (c.loop-j.invariant.1 j (omega arith))))
+    no_start t x (λ s. true≢false (sym (is s) ∙ sym c.is_word.ensures ∙ c.if-not-is_word.true))
