@@ -40,29 +40,32 @@ fn main() {
         println!(
             "cargo:warning=There is no {ARCHIVE} in {}: the crate is built with its reference \
              implementation alone, and nothing is compared with the archive. Make the archive \
-             with `rt staticlib tablegull`, or name its folder in TABLEGULL_LIB.",
+             with `tools/archive`, or name its folder in TABLEGULL_LIB.",
             folder.display()
         );
     }
 }
 
 fn default_folder() -> PathBuf {
-    in_target("staticlib")
+    in_repository("target/staticlib")
 }
 
-fn in_target(folder: &str) -> PathBuf {
+fn in_repository(path: &str) -> PathBuf {
     let package = env::var_os("CARGO_MANIFEST_DIR").expect("cargo names the package's folder");
-    Path::new(&package).join("../target").join(folder)
+    Path::new(&package).join("..").join(path)
 }
 
 /// Sets the cfg `has_programs` where one of the proved programs is there, which the
-/// tests run: in the folder that `TABLEGULL_BIN` names or else in `../target/bin`.
+/// tests run: in the folder that `TABLEGULL_BIN` names, or else where each is built,
+/// as `../crates/trail_report/out/trail_report`.
 fn find_programs() {
     println!("cargo:rerun-if-env-changed=TABLEGULL_BIN");
     println!("cargo:rustc-check-cfg=cfg(has_programs)");
     let named = env::var_os("TABLEGULL_BIN").map(PathBuf::from);
-    let folder = named.unwrap_or_else(|| in_target("bin"));
-    let programs = ["trail_report", "trail_clauses"].map(|name| folder.join(name));
+    let programs = ["trail_report", "trail_clauses"].map(|name| match &named {
+        Some(folder) => folder.join(name),
+        None => in_repository(&format!("crates/{name}/out/{name}")),
+    });
     for program in &programs {
         println!("cargo:rerun-if-changed={}", program.display());
     }

@@ -13,13 +13,13 @@ fn repository() -> PathBuf {
 }
 
 /// The files in a folder and in those below it, by their paths, with their bytes.
-/// What Python keeps for itself is left out.
+/// What Python and Rattle's tool keep for themselves is left out.
 fn files_in(root: &Path, folder: &str) -> BTreeMap<String, Vec<u8>> {
     let mut files = BTreeMap::new();
     for entry in fs::read_dir(root.join(folder)).unwrap() {
         let entry = entry.unwrap();
         let path = format!("{folder}/{}", entry.file_name().to_str().unwrap());
-        if path.ends_with("__pycache__") {
+        if path.ends_with("__pycache__") || path.ends_with("/out") {
             continue;
         }
         if entry.path().is_dir() {

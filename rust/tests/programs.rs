@@ -124,14 +124,18 @@ fn texts_are_those_of_the_calls() {
 }
 
 /// The programs that print a text: the reference's, and the proved ones where they
-/// are there, in the folder that `TABLEGULL_BIN` names or else in `../target/bin`.
+/// are there, in the folder that `TABLEGULL_BIN` names, or else where each is built, as
+/// `../crates/trail_report/out/trail_report`.
 fn text_programs() -> Vec<PathBuf> {
     let named = std::env::var_os("TABLEGULL_BIN").map(PathBuf::from);
-    let beside_the_package = || Path::new(env!("CARGO_MANIFEST_DIR")).join("../target/bin");
-    let folder = named.clone().unwrap_or_else(beside_the_package);
+    let crates = Path::new(env!("CARGO_MANIFEST_DIR")).join("../crates");
+    let place = |name: &str| match &named {
+        Some(folder) => folder.join(name),
+        None => crates.join(format!("{name}/out/{name}")),
+    };
     // Whoever names a folder wants the programs: without them the test fails.
     let proved = ["trail_report", "trail_clauses"]
-        .map(|name| folder.join(name))
+        .map(place)
         .into_iter()
         .filter(|program| named.is_some() || program.is_file());
     let reference = [

@@ -25,7 +25,9 @@ fn folder(test: &str) -> PathBuf {
     let name = format!("readme-{test}-{}", std::process::id());
     let folder = Path::new(env!("CARGO_TARGET_TMPDIR")).join(name);
     let _ = fs::remove_dir_all(&folder);
-    for below in ["target/bin", "bin", "examples", "rust/src/bin"] {
+    let programs = ["trail_report", "trail_clauses"].map(|name| format!("crates/{name}/out"));
+    let [in_report, in_clauses] = &programs;
+    for below in [in_report, in_clauses, "bin", "examples", "rust/src/bin"] {
         fs::create_dir_all(folder.join(below)).unwrap();
     }
     fs::copy(repository().join("tablegull"), folder.join("tablegull")).unwrap();
@@ -37,8 +39,8 @@ fn folder(test: &str) -> PathBuf {
     }
     let reports = env!("CARGO_BIN_EXE_reference_report");
     let clauses = env!("CARGO_BIN_EXE_reference_clauses");
-    symlink(reports, folder.join("target/bin/trail_report")).unwrap();
-    symlink(clauses, folder.join("target/bin/trail_clauses")).unwrap();
+    symlink(reports, folder.join(in_report).join("trail_report")).unwrap();
+    symlink(clauses, folder.join(in_clauses).join("trail_clauses")).unwrap();
     fs::write(folder.join("rust/src/bin/solution.rs"), "").unwrap();
     let solution = env!("CARGO_BIN_EXE_solution");
     let after_dashes = "while [ \"$1\" != -- ]; do shift; done; shift";

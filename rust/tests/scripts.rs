@@ -1,7 +1,7 @@
-//! The scripts `tablegull`, `.ci/run`, `examples/solve` and `examples/xtea`. Each
-//! is copied to a folder of its own, and what it calls is played there by small
-//! scripts that tell how they were called: neither a program, Rattle's tool nor a
-//! SAT solver is needed.
+//! The scripts `tablegull`, `.ci/run`, `tools/archive`, `examples/solve` and
+//! `examples/xtea`. Each is copied to a folder of its own, and what it calls is
+//! played there by small scripts that tell how they were called: neither a program,
+//! Rattle's tool nor a SAT solver is needed.
 
 use std::fs;
 use std::os::unix::fs::{symlink, PermissionsExt};
@@ -31,12 +31,17 @@ impl Folder {
         let repository = Path::new(env!("CARGO_MANIFEST_DIR")).join("..");
         fs::copy(repository.join(script), folder.place(script)).unwrap();
         for tool in TOOLS {
-            let paths = std::env::var_os("PATH").unwrap();
-            let mut found = std::env::split_paths(&paths).map(|path| path.join(tool));
-            let found = found.find(|file| file.is_file());
-            symlink(found.expect(tool), folder.place(&format!("bin/{tool}"))).unwrap();
+            folder.tool(tool);
         }
         folder
+    }
+
+    /// With this program of the system on the path.
+    fn tool(&self, tool: &str) {
+        let paths = std::env::var_os("PATH").unwrap();
+        let mut found = std::env::split_paths(&paths).map(|path| path.join(tool));
+        let found = found.find(|file| file.is_file());
+        symlink(found.expect(tool), self.place(&format!("bin/{tool}"))).unwrap();
     }
 
     /// The path of a file, whose folder is made.
@@ -95,11 +100,16 @@ fn succeeds(printed: &str) -> (String, String, Option<i32>) {
     (printed.into(), String::new(), Some(0))
 }
 
+/// Where a built program lies.
+fn built(program: &str) -> String {
+    format!("crates/{program}/out/{program}")
+}
+
 /// With both programs, which print their names and then the sheet.
 fn tablegull(test: &str) -> Folder {
     let folder = Folder::with("tablegull", test);
     for name in ["trail_report", "trail_clauses"] {
-        folder.program(&format!("target/bin/{name}"), &format!("echo {name}; cat"));
+        folder.program(&built(name), &format!("echo {name}; cat"));
     }
     folder.file("examples/lea7.sheet", "the example\n");
     folder.file("elsewhere/own.sheet", "its own\n");
@@ -141,15 +151,25 @@ fn tablegull_says_what_it_cannot_do() {
 #[test]
 fn tablegull_ends_with_1_where_the_program_failed() {
     let folder = tablegull("failed");
-    folder.program("target/bin/trail_clauses", "echo cut; echo full >&2");
-    let failed = ("cut\n".into(), "tablegull: full\n".into(), Some(1));
-    assert_eq!(folder.run("tablegull", &["clauses"]), failed);
+    for status in [0, 1, 3] {
+        let text = format!("echo cut; echo full >&2; exit {status}");
+        folder.program(&built("trail_clauses"), &text);
+        let failed = ("cut\n".into(), "tablegull: full\n".into(), Some(1));
+        assert_eq!(folder.run("tablegull", &["clauses"]), failed);
+    }
+    folder.program(&built("trail_clauses"), "echo cut; exit 3");
+    let (printed, said, status) = folder.run("tablegull", &["clauses"]);
+    assert_eq!((printed.as_str(), status), ("cut\n", Some(1)));
+    assert!(said.starts_with("tablegull: "), "{said}");
 }
 
 #[test]
 fn tablegull_has_a_missing_program_built() {
     let folder = Folder::with("tablegull", "missing");
     folder.file("examples/lea7.sheet", "the example\n");
+    for program in ["trail_report", "trail_clauses"] {
+        folder.place(&format!("crates/{program}/src"));
+    }
     folder.fails("tablegull", &["report"]);
     folder.program("bin/rt", "exit 1");
     assert_eq!(folder.run("tablegull", &["report"]).2, Some(1));
@@ -157,31 +177,87 @@ fn tablegull_has_a_missing_program_built() {
     folder.program("bin/rt", "exit 0");
     assert_eq!(folder.run("tablegull", &["report"]).2, Some(1));
     folder.file("built", "#!/bin/sh\necho built; cat\n");
+    // Run once as it is built, on no input; what it prints then is not the sheet's.
     folder.program(
         "bin/rt",
-        "echo \"$@\" >> said && cp built \"target/bin/$2\" && chmod +x \"target/bin/$2\"",
+        "echo \"$@\" in \"$PWD\" >> ../../said && cat > ../../input && echo first\n\
+         name=${PWD##*/} && cp ../../built \"out/$name\" && chmod +x \"out/$name\"",
     );
-    folder.place("target/bin/x");
     for (word, program) in [("report", "trail_report"), ("clauses", "trail_clauses")] {
+        folder.place(&format!("crates/{program}/out/x"));
         let (printed, _, status) = folder.run("tablegull", &[word]);
         assert_eq!(
             (printed.as_str(), status),
             ("built\nthe example\n", Some(0))
         );
         let said = fs::read_to_string(folder.place("said")).unwrap();
-        assert!(said.ends_with(&format!("check {program}\n")), "{said}");
+        let wanted = format!(
+            "run in {}\n",
+            folder.0.join("crates").join(program).display()
+        );
+        assert!(said.ends_with(&wanted), "{said}");
+        assert_eq!(fs::read_to_string(folder.place("input")).unwrap(), "");
+    }
+}
+
+#[test]
+fn the_archive_is_the_static_librarys() {
+    let folder = Folder::with("tools/archive", "archive");
+    for tool in ["mkdir", "mv"] {
+        folder.tool(tool);
+    }
+    folder.place("crates/tablegull_c/out/x");
+    folder.fails("tools/archive", &[]);
+    let archive = folder.0.join("target/staticlib/libtablegull.a");
+    folder.program("bin/rt", "exit 1");
+    folder.fails("tools/archive", &[]);
+    // One that says it is built, and is not.
+    folder.program("bin/rt", "exit 0");
+    assert_eq!(folder.run("tools/archive", &[]).2, Some(1));
+    assert!(!archive.exists());
+    for built in ["first", "second"] {
+        folder.program(
+            "bin/rt",
+            &format!("echo \"$@\" in \"${{PWD##*/}}\"; echo {built} > out/libtablegull_c.a"),
+        );
+        let said = "lib in tablegull_c\n".to_string();
+        let done = (String::new(), said, Some(0));
+        assert_eq!(folder.run("tools/archive", &[]), done);
+        assert_eq!(fs::read_to_string(&archive).unwrap(), format!("{built}\n"));
     }
 }
 
 #[test]
 fn the_gate_is_rt_ci_in_the_repository() {
     let folder = Folder::with(".ci/run", "gate");
-    folder.program("bin/bash", "exec sh \"$@\"");
+    folder.tool("bash");
     for status in [0, 1, 3] {
         folder.program("bin/rt", &format!("echo \"$*\" in \"$PWD\"; exit {status}"));
         let (printed, _, ended) = folder.run(".ci/run", &[]);
         assert_eq!(printed, format!("ci in {}\n", folder.0.display()));
         assert_eq!(ended, Some(status));
+    }
+    // An edit that cannot be applied fails nothing in `rt ci`.
+    for (edits, status) in [
+        ("", 0),
+        ("; must-fail edits: 5 refused", 0),
+        ("; must-fail edits: 5 refused, 1 of them only by a limit", 0),
+        ("; must-fail edits: 5 refused, 1 bad", 1),
+        ("; must-fail edits: 0 refused, 12 bad", 1),
+        (
+            "; must-fail edits: 5 refused, 1 of them only by a limit, 10 bad",
+            1,
+        ),
+    ] {
+        let ok = format!("rt: ok; handles allowed: none{edits}; all was done in this run");
+        folder.program("bin/rt", &format!("echo '{ok}'; echo '5 passed, 0 failed'"));
+        let (printed, said, ended) = folder.run(".ci/run", &[]);
+        assert_eq!(printed, format!("{ok}\n5 passed, 0 failed\n"));
+        assert_eq!(
+            (ended, said.is_empty()),
+            (Some(status), status == 0),
+            "{said}"
+        );
     }
 }
 

@@ -1,5 +1,6 @@
-// The calls for C and for what links as C does: each is a call of the crates whose names end in `_c`, with the same contract, exported.
-// A slice is lent as a pointer and a length. Every call answers with the same struct.
+// The calls for C and for what links as C does: each is a call of the crates whose names end in `_c`, with the same contract. A slice is
+// lent as a pointer and a length. Every call answers with the same struct. A library's functions are not exported: `tablegull_c` exports
+// these.
 
 #![tactic(auto)]
 

@@ -1,5 +1,6 @@
-// Every public call, and every exported one, made with arguments of which nothing is known: so none of them requires anything. A call
-// that required something would not be proved here. Nothing uses these functions.
+// Every public call, and every one for C, made with arguments of which nothing is known: so none of them requires anything. A call that
+// required something would not be proved here. Nothing uses these functions. Of the exported calls, which no crate can use,
+// `tablegull_c` says the same in a module of its own.
 
 #![tactic(auto)]
 
@@ -59,7 +60,7 @@ pub fn in_rattle_indexed(
     changing_indexed::change_indexed(sheet, index, report, line, difference);
 }
 
-// The exported calls on a sheet's bytes.
+// The calls for C on a sheet's bytes.
 pub fn on_bytes(sheet: &mut [u8], number: u64, out: &mut [u8]) {
     tablegull_read(sheet);
     tablegull_line_report(sheet, number, out);
