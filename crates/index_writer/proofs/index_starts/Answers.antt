@@ -37,9 +37,6 @@ overflow_cast-starts c =
     let h = c.loop-j in
     omega (arith, h.invariant.1.next_is, part_inside (trail_of c.args.sheet.now) h.j (omega (arith, words_read read)), index_most read)
 
-pub offset_bounds-starts-j-in-loop-j : goal.offset_bounds-starts-j-in-loop-j
-offset_bounds-starts-j-in-loop-j c = omega (arith, bounds-starts-j-in-loop-j c)
-
 pub overflow_add-next-in-loop-j : goal.overflow_add-next-in-loop-j
 overflow_add-next-in-loop-j c =
     let read = c.requires.0 in
