@@ -46,3 +46,20 @@ unfolding kind_of
 returns-in-9 c =
     c.words_report-in-9.ensures
     ∙ sym (report_by_lem _ (at_key (λ q. reporting q ≡ two_words turning_back) c.in-9.is refl))
+
+pub returns-in-1-to-4 : goal.returns-in-1-to-4
+returns-in-1-to-4 c =
+    c.certain_if.ensures
+    ∙ sym (linear_report _ (linear_number _ (omega arith) (omega arith) (λ e. omega arith) (λ e. omega arith)))
+
+pub returns-in_default : goal.returns-in_default
+unfolding report_of
+returns-in_default c =
+    let d = c.args.d in
+    at_no_kind (λ q. impossible ≡ report_by (reporting q) d) (inl (omega arith)) refl
+
+pub returns-in_default-2 : goal.returns-in_default-2
+unfolding report_of
+returns-in_default-2 c =
+    let d = c.args.d in
+    at_no_kind (λ q. impossible ≡ report_by (reporting q) d) (inr (omega arith)) refl
