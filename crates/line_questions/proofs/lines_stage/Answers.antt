@@ -14,14 +14,14 @@ unfolding line_questions
 returns-in_default c =
     let before = c.loop-k.invariant.1 in
     let line = rw c.record_of.ensures at c.record_stage-answer.ensures in
-    hands_on _ _ _ _ _ _ (omega arith) before line c.enum_told-in_default-1.given.1
+    hands_on _ _ _ _ _ _ (omega arith) before line c.in_default.is
 
 pub loop-k-preserved : goal.loop-k-preserved
 unfolding line_questions
 loop-k-preserved c =
     let before = c.loop-k.invariant.1 in
     let line = rw c.record_of.ensures at c.record_stage-answer.ensures in
-    (search rules, yes_next _ _ before (asked _ _ _ _ line c.enum_told-1.given.1).0)
+    (search rules, yes_next _ _ before (asked _ _ _ _ line c.in-Accepted.is).0)
 
 pub returns : goal.returns
 returns c = search turn depth 12
