@@ -1,6 +1,7 @@
 -- The length settles how many blocks there are.
-use Rattle.sheet.specs.Questions.{within, length_questions}
-use Rattle.sheet.proofs.Testing.{granted, within_least}
+use mathlib.Core.Path.{sym, ◌∙◌}
+use Rattle.sheet.specs.Questions.{length_questions}
+use Rattle.sheet.proofs.Testing.{within_least}
 use Rattle.answers.proofs.Answering.{stage}
 use Rattle.reading.proofs.length_stage.Goals as goal
 
@@ -13,7 +14,7 @@ unfolding length_questions
 returns-then-not-within c = search stage depth 12
 
 pub header_of-requires : goal.header_of-requires
-header_of-requires c = within_least 1024 4608 _ (granted c.within.ensures c.if-not-within.false)
+header_of-requires c = within_least 1024 4608 _ (sym c.within.ensures ∙ c.if-not-within.false)
 
 pub returns : goal.returns
 unfolding length_questions

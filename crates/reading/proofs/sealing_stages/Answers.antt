@@ -10,15 +10,15 @@ use Rattle.reading.proofs.sealing_stages.Goals as goal
 
 pub returns-in_default : goal.returns-in_default
 unfolding questions
-returns-in_default c = hand_on _ _ _ _ _ _ c.length_stage-length.ensures c.enum_told-1.given.1
+returns-in_default c = hand_on _ _ _ _ _ _ c.length_stage-length.ensures c.in_default.is
 
 pub later_stages-requires : goal.later_stages-requires
 later_stages-requires c =
-    let length = asked _ _ _ _ c.length_stage-length.ensures c.length-1.given.1 in
+    let length = asked _ _ _ _ c.length_stage-length.ensures c.in-Accepted.is in
     subst (Whole _) length.1 (whole _ length.0)
 
 pub returns : goal.returns
 unfolding questions check_questions
 returns c =
-    let length = asked _ _ _ _ c.length_stage-length.ensures c.length-1.given.1 in
+    let length = asked _ _ _ _ c.length_stage-length.ensures c.in-Accepted.is in
     (rw (← length.1) at c.later_stages.ensures) ∙ sym (go_on _ _ _ length.0)
