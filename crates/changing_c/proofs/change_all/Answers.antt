@@ -7,9 +7,9 @@ use Rattle.changing_c.proofs.change_all.Goals as goal
 pub returns-in-Replied : goal.returns-in-Replied
 returns-in-Replied c =
     let made = c.change_all-answer.ensures in
-    (c.counted.ensures ∙ ap answer_of (sym (ap changes_means c.answer-1.given.1) ∙ made.0), made.1, made.2)
+    (c.counted.ensures ∙ ap answer_of (sym (ap changes_means c.in-Replied.is) ∙ made.0), made.1, made.2)
 
 pub returns-in-Refused : goal.returns-in-Refused
 returns-in-Refused c =
     let made = c.change_all-answer.ensures in
-    (c.refusing.ensures ∙ ap answer_of (sym (ap changes_means c.answer-in-Refused-1.given.1) ∙ made.0), made.1, made.2)
+    (c.refusing.ensures ∙ ap answer_of (sym (ap changes_means c.in-Refused.is) ∙ made.0), made.1, made.2)

@@ -8,45 +8,45 @@ use Rattle.changing_indexed.proofs.change_indexed.Goals as goal
 pub returns-in_default : goal.returns-in_default
 returns-in_default c =
     let a = c.args in
-    unread a.sheet.now a.index.now a.report.now a.k a.difference c.read-reading.ensures c.enum_told-1.given.1 c.refusal_of.ensures
+    unread a.sheet.now a.index.now a.report.now a.k a.difference c.read-reading.ensures c.in_default.is c.refusal_of.ensures
 
 pub are_own-requires : goal.are_own-requires
-are_own-requires c = was_read _ _ c.read-reading.ensures _ c.reading-1.given.1
+are_own-requires c = was_read _ _ c.read-reading.ensures _ c.in-Accepted.is
 
 pub returns-then-not-are_own : goal.returns-then-not-are_own
 returns-then-not-are_own c =
     let a = c.args in
-    let read = was_read _ _ c.read-reading.ensures _ c.reading-1.given.1 in
+    let read = was_read _ _ c.read-reading.ensures _ c.in-Accepted.is in
     not_own a.sheet.now a.index.now a.report.now a.k a.difference read (sym c.are_own.ensures ∙ not-true _ c.if-not-are_own.true)
 
 pub change_stage-asked-requires : goal.change_stage-asked-requires
-change_stage-asked-requires c = (was_read _ _ c.read-reading.ensures _ c.reading-1.given.1).limits
+change_stage-asked-requires c = (was_read _ _ c.read-reading.ensures _ c.in-Accepted.is).limits
 
 pub returns-in_default-asked : goal.returns-in_default-asked
 returns-in_default-asked c =
     let a = c.args in
-    let read = was_read _ _ c.read-reading.ensures _ c.reading-1.given.1 in
+    let read = was_read _ _ c.read-reading.ensures _ c.in-Accepted.is in
     let own = sym c.are_own.ensures ∙ not-false _ c.if-not-are_own.false in
-    stage_refused a.sheet.now a.index.now a.report.now a.k a.difference read own _ c.change_stage-asked.ensures c.enum_told-in_default-asked-1.given.1 c.refusal_of-in_default-asked.ensures
+    stage_refused a.sheet.now a.index.now a.report.now a.k a.difference read own _ c.change_stage-asked.ensures c.in_default-asked.is c.refusal_of-in_default-asked.ensures
 
 pub change_difference-requires : goal.change_difference-requires
 change_difference-requires c =
     let a = c.args in
-    let read = was_read _ _ c.read-reading.ensures _ c.reading-1.given.1 in
+    let read = was_read _ _ c.read-reading.ensures _ c.in-Accepted.is in
     let own = sym c.are_own.ensures ∙ not-false _ c.if-not-are_own.false in
-    let p = passed a.sheet.now a.index.now a.report.now a.k a.difference read own _ c.change_stage-asked.ensures c.enum_told-in-Accepted-asked-1.given.1 in
+    let p = passed a.sheet.now a.index.now a.report.now a.k a.difference read own _ c.change_stage-asked.ensures c.in-Accepted-asked.is in
     (p.read, p.known)
 
 pub renew_reports-requires : goal.renew_reports-requires
 renew_reports-requires c =
     let a = c.args in
-    let read = was_read _ _ c.read-reading.ensures _ c.reading-1.given.1 in
+    let read = was_read _ _ c.read-reading.ensures _ c.in-Accepted.is in
     let own = sym c.are_own.ensures ∙ not-false _ c.if-not-are_own.false in
-    renewing a.sheet.now a.index.now a.report.now a.k a.difference read own _ c.change_stage-asked.ensures c.enum_told-in-Accepted-asked-1.given.1 c.change_difference.ensures
+    renewing a.sheet.now a.index.now a.report.now a.k a.difference read own _ c.change_stage-asked.ensures c.in-Accepted-asked.is c.change_difference.ensures
 
 pub returns : goal.returns
 returns c =
     let a = c.args in
-    let read = was_read _ _ c.read-reading.ensures _ c.reading-1.given.1 in
+    let read = was_read _ _ c.read-reading.ensures _ c.in-Accepted.is in
     let own = sym c.are_own.ensures ∙ not-false _ c.if-not-are_own.false in
-    made a.sheet.now a.index.now a.report.now a.k a.difference read own _ c.change_stage-asked.ensures c.enum_told-in-Accepted-asked-1.given.1 c.change_difference.ensures c.renew_reports.ensures
+    made a.sheet.now a.index.now a.report.now a.k a.difference read own _ c.change_stage-asked.ensures c.in-Accepted-asked.is c.change_difference.ensures c.renew_reports.ensures

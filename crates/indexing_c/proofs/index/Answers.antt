@@ -7,9 +7,9 @@ use Rattle.indexing_c.proofs.index.Goals as goal
 pub returns-in-Written : goal.returns-in-Written
 returns-in-Written c =
     let made = c.index-answer.ensures in
-    (c.counted.ensures ∙ ap answer_of (sym (ap index_means c.answer-1.given.1) ∙ made.0), made.1)
+    (c.counted.ensures ∙ ap answer_of (sym (ap index_means c.in-Written.is) ∙ made.0), made.1)
 
 pub returns-in-Refused : goal.returns-in-Refused
 returns-in-Refused c =
     let made = c.index-answer.ensures in
-    (c.refusing.ensures ∙ ap answer_of (sym (ap index_means c.answer-in-Refused-1.given.1) ∙ made.0), made.1)
+    (c.refusing.ensures ∙ ap answer_of (sym (ap index_means c.in-Refused.is) ∙ made.0), made.1)

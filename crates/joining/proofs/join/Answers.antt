@@ -18,8 +18,8 @@ join_read-requires c = (search calling depth 12, search calling depth 12)
 pub returns : goal.returns
 returns c =
     let a = c.args in
-    let one = was_read _ _ c.read-reading.ensures _ c.reading-1.given.1 in
-    let two = was_read _ _ c.read-reading_second.ensures _ c.reading_second-1.given.1 in
+    let one = was_read _ _ c.read-reading.ensures _ c.in-Accepted.is in
+    let two = was_read _ _ c.read-reading_second.ensures _ c.in-Accepted-reading_second.is in
     let same = sym (both_read a.names.now a.out.now one two) in
     let made = c.join_read.ensures in
     (made.0 ∙ ap (λ (call : Call ℕ). call.answer) same, made.1 ∙ ap (λ (call : Call ℕ). call.buffer) same)

@@ -9,7 +9,7 @@ returns-in_default c = kept _ _ _ (search reporting depth 12)
 
 pub overflow_mul-need : goal.overflow_mul-need
 overflow_mul-need c =
-    let read = was_read _ _ c.read-reading.ensures _ c.reading-1.given.1 in
+    let read = was_read _ _ c.read-reading.ensures _ c.in-Accepted.is in
     omega (arith, read.limits.lines_most)
 
 pub returns-then-out-need : goal.returns-then-out-need

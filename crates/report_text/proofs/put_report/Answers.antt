@@ -31,52 +31,52 @@ put_decimal-named-requires c =
 pub put_fields-requires : goal.put_fields-requires
 unfolding ascii name_text
 put_fields-requires c =
-    left_room (fields_left c.before.before.before.before c.enum_told-1.given.1 _ refl)
+    left_room (fields_left c.before.before.before.before c.in-Impossible.is _ refl)
 
 pub put_fields-requires-in-Certain : goal.put_fields-requires-in-Certain
 unfolding ascii name_text
 put_fields-requires-in-Certain c =
-    left_room (fields_left c.before.before.before.before c.enum_told-in-Certain-1.given.1 _ refl)
+    left_room (fields_left c.before.before.before.before c.in-Certain.is _ refl)
 
 pub in_sixteenths-weight-requires : goal.in_sixteenths-weight-requires
 in_sixteenths-weight-requires c =
-    omega (arith, (small_found c.report-1.given.1 c.requires.1).weight)
+    omega (arith, (small_found c.in-Halves.is c.requires.1).weight)
 
 pub put_fields-requires-in-Halves : goal.put_fields-requires-in-Halves
 unfolding ascii name_text
 put_fields-requires-in-Halves c =
     rw c.in_sixteenths-weight.ensures
-    (left_room (fields_left c.before.before.before.before.before.before c.report-1.given.1 _ refl))
+    (left_room (fields_left c.before.before.before.before.before.before c.in-Halves.is _ refl))
 
 pub put_fields-requires-in-Counted : goal.put_fields-requires-in-Counted
 unfolding ascii name_text
 put_fields-requires-in-Counted c =
-    left_room (fields_left c.before.before.before.before.before c.report-in-Counted-1.given.1 _ refl)
+    left_room (fields_left c.before.before.before.before.before c.in-Counted.is _ refl)
 
 pub returns-in-Impossible : goal.returns-in-Impossible
 unfolding ascii name_text
 returns-in-Impossible c =
-    let told = c.enum_told-1.given.1 in
+    let told = c.in-Impossible.is in
     left_last (fields_left c.before.before.before.before.before.before.before told _ refl)
     c.put_fields.ensures
 
 pub returns-in-Certain : goal.returns-in-Certain
 unfolding ascii name_text
 returns-in-Certain c =
-    let told = c.enum_told-in-Certain-1.given.1 in
+    let told = c.in-Certain.is in
     left_last (fields_left c.before.before.before.before.before.before.before told _ refl)
     c.put_fields-in-Certain.ensures
 
 pub returns-in-Halves : goal.returns-in-Halves
 unfolding ascii name_text
 returns-in-Halves c =
-    let told = c.report-1.given.1 in
+    let told = c.in-Halves.is in
     left_last (fields_left c.before.before.before.before.before.before.before.before.before told _ refl)
     (rw c.in_sixteenths-weight.ensures at c.put_fields-in-Halves.ensures)
 
 pub returns-in-Counted : goal.returns-in-Counted
 unfolding ascii name_text
 returns-in-Counted c =
-    let told = c.report-in-Counted-1.given.1 in
+    let told = c.in-Counted.is in
     left_last (fields_left c.before.before.before.before.before.before.before.before told _ refl)
     c.put_fields-in-Counted.ensures

@@ -2,7 +2,7 @@
 use Rattle.runs_c.proofs.put_outcome.Goals as goal
 
 pub returns-in-Follows : goal.returns-in-Follows
-returns-in-Follows c = rw c.enum_told-1.given.1 c.put_all.ensures
+returns-in-Follows c = rw c.in-Follows.is c.put_all.ensures
 
 pub returns-in-Disagree : goal.returns-in-Disagree
-returns-in-Disagree c = rw c.outcome-1.given.1 c.put_all-in-Disagree.ensures
+returns-in-Disagree c = rw c.in-Disagree.is c.put_all-in-Disagree.ensures

@@ -6,7 +6,7 @@ use Rattle.answers.proofs.Calling.{c_given, c_refused}
 use Rattle.sealing_c.proofs.seal.Goals as goal
 
 pub returns-in-Accepted : goal.returns-in-Accepted
-returns-in-Accepted c = (c_given _ _ (λ (h : Header). h.blocks) (sym c.seal-reading.ensures.0 ∙ ap reading_means c.reading-1.given.1) c.counted.ensures, c.seal-reading.ensures.1)
+returns-in-Accepted c = (c_given _ _ (λ (h : Header). h.blocks) (sym c.seal-reading.ensures.0 ∙ ap reading_means c.in-Accepted.is) c.counted.ensures, c.seal-reading.ensures.1)
 
 pub returns-in-Refused : goal.returns-in-Refused
-returns-in-Refused c = (c_refused _ _ _ (sym c.seal-reading.ensures.0 ∙ ap reading_means c.reading-in-Refused-1.given.1) c.refusing.ensures, c.seal-reading.ensures.1)
+returns-in-Refused c = (c_refused _ _ _ (sym c.seal-reading.ensures.0 ∙ ap reading_means c.in-Refused.is) c.refusing.ensures, c.seal-reading.ensures.1)

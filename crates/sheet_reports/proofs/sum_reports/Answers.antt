@@ -52,29 +52,6 @@ with_line-next-requires c =
     let here = subst SmallReport (sym is) (sheet_report_small s read.accepted h.k (omega arith)) in
     (omega (arith, sums.impossible), omega (arith, sums.weight), omega (arith, sums.chains), here)
 
-pub loop-k-preserved : goal.loop-k-preserved
-unfolding line_report differential_of
-loop-k-preserved c =
-    let h = c.loop-k in
-    let t = trail_of c.args.sheet.now in
-    let inside = c.loop-k-test.true in
-    let asked = c.is_charged in
-    let report = c.report-report.result in
-    let is = c.differential_at-differential.ensures in
-    let line = ap (λ (d : Differential). d.line) is ∙ ap (line_at t) (sym (zero-add h.k)) in
-    let means = c.report-report.ensures ∙ ap report_of is ∙ ap (line_report t) (sym (zero-add h.k)) in
-    ⊎_elim
-    (λ w.
-    let room : line_numbers * h.count + line_numbers ≤ length h.charged = omega (arith, h.invariant.2.few, c.requires.limits.lines_most) in
-    let charged = w.3.ensures in
-    let step = other_passed h.invariant.2 h.invariant.1 line report means (sym asked.ensures ∙ not-true _ w.0.taken) room charged.0 charged.1 in
-    let marked = marked_charge h.invariant.4 _ room h.invariant.5 (costs (report_means report)) charged.0 charged.1 charged.2 in
-    rw (w.6, w.7, w.8, w.9) (omega arith, w.5.ensures ∙ step.0, step.1, step.2 ∙ h.invariant.3, marked.0, marked.1))
-    (λ w.
-    let step = repeat_passed h.invariant.2 h.invariant.1 line report means (sym asked.ensures ∙ not-false _ w.0.left) in
-    rw (w.1, w.2, w.3, w.4) (omega arith, step.0, step.1, h.invariant.3, h.invariant.4, h.invariant.5))
-    c.if-not-is_charged.branch
-
 pub returns : goal.returns
 returns c =
     let h = c.loop-k in

@@ -8,11 +8,11 @@ use Rattle.texts.proofs.clause_text.Goals as goal
 pub returns-in_default : goal.returns-in_default
 returns-in_default c =
     kept _ _ _
-    (refused_by_stage _ _ _ _ _ _ _ c.read_part-reading.ensures c.enum_told-1.given.1 c.refusal_of.ensures)
+    (refused_by_stage _ _ _ _ _ _ _ c.read_part-reading.ensures c.in_default.is c.refusal_of.ensures)
 
 pub write_part-requires : goal.write_part-requires
 write_part-requires c =
-    let read = part_read _ _ _ _ c.read_part-reading.ensures c.reading-1.given.1 in
+    let read = part_read _ _ _ _ c.read_part-reading.ensures c.in-Accepted.is in
     (read.read, read.most)
 
 pub returns : goal.returns
@@ -20,5 +20,5 @@ returns c =
     let a = c.args in
     let text = file_part (trail_of a.sheet.now) a.part in
     let read = part_read _ _ _ _ c.read_part-reading.ensures
-    c.reading-1.given.1 in
+    c.in-Accepted.is in
     rw (part_there a.sheet.now a.part text a.out.now read.passed) c.write_part.ensures

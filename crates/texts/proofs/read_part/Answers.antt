@@ -9,16 +9,16 @@ use Rattle.text_parts.proofs.Calls.{part_past, part_asked}
 use Rattle.texts.proofs.read_part.Goals as goal
 
 pub returns-in_default : goal.returns-in_default
-returns-in_default c = hand_on _ _ _ _ _ _ c.read-reading.ensures c.enum_told-1.given.1
+returns-in_default c = hand_on _ _ _ _ _ _ c.read-reading.ensures c.in_default.is
 
 pub returns-then-header-part : goal.returns-then-header-part
 returns-then-header-part c =
     let a = c.args in
-    let read : SheetRead a.sheet.now c.reading-1.given.0.0 = search calling depth 12 in
+    let read : SheetRead a.sheet.now c.in-Accepted.header = search calling depth 12 in
     c.refused.ensures ∙ part_past read a.part (omega arith) (header_of a.sheet.now)
 
 pub returns : goal.returns
 returns c =
     let a = c.args in
-    let read : SheetRead a.sheet.now c.reading-1.given.0.0 = search calling depth 12 in
+    let read : SheetRead a.sheet.now c.in-Accepted.header = search calling depth 12 in
     part_asked read a.part (omega arith)

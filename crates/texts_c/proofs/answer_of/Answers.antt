@@ -6,7 +6,7 @@ use Rattle.text_parts.specs.declared.PartAnswer.{PartAnswer}
 use Rattle.texts_c.proofs.answer_of.Goals as goal
 
 pub returns-in-Written : goal.returns-in-Written
-returns-in-Written c = c.counted.ensures ∙ ap (λ (a : PartAnswer). answer_of (part_means a)) (sym c.answer-1.given.1)
+returns-in-Written c = c.counted.ensures ∙ ap (λ (a : PartAnswer). answer_of (part_means a)) (sym c.in-Written.is)
 
 pub returns-in-Refused : goal.returns-in-Refused
-returns-in-Refused c = c.refusing.ensures ∙ ap (λ (a : PartAnswer). answer_of (part_means a)) (sym c.answer-in-Refused-1.given.1)
+returns-in-Refused c = c.refusing.ensures ∙ ap (λ (a : PartAnswer). answer_of (part_means a)) (sym c.in-Refused.is)
