@@ -78,8 +78,8 @@ any_pairs h (p ∷ ps) = (λ a. tt, any_pairs h ps)
 
 pub list_read : {s : List ℕ} {h : Header} → SheetRead s h → (ps : List Pair) → SheetRead (sheet_after s ps) h
 unfolding sheet_after
-list_read read [] = read
-list_read read (p ∷ ps) = list_read (read_after read p) ps
+list_read {s = s} {h = h} read [] = read
+list_read {s = s} {h = h} read (p ∷ ps) = list_read {s = (change_of s p).buffer} {h = h} (read_after read p) ps
 
 -- what a change that is applied leaves
 module _ {s : List ℕ} {h : Header} (read : SheetRead s h) (p : Pair) (a : Applies h p) where

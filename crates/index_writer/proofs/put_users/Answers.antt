@@ -2,7 +2,6 @@ use Prim.Native.Nat.{◌+◌, ◌-◌}
 use native.Mathlib.Nat.{add-zero}
 use native.Mathlib.Omega.{arith}
 use mathlib.Core.Path.{◌≡◌, refl, sym, ap, ◌∙◌}
-use mathlib.Core.Logic.{⊎_elim}
 use borrow.Author.Rules.{rules}
 use Rattle.trail.specs.Trail.{line_count}
 use Rattle.sheet.specs.Fields.{trail_of}
@@ -14,6 +13,7 @@ use Rattle.index_writer.proofs.Keeping.{kept_as}
 use Rattle.index_writer.proofs.Standing.{stands_none}
 use Rattle.index_writer.proofs.Operands.{first_word, second_word, after_one, after_two, placed_as, place_fits, place_taken, first_next, second_next}
 use Rattle.index_writer.proofs.put_users.Goals as goal
+use Rattle.index_writer.proofs.put_users.Goals.{then-names_another, else-names_another}
 
 pub loop-i-init : goal.loop-i-init
 loop-i-init c =
@@ -50,6 +50,30 @@ put_user-requires-then-names_another c =
     let then = second_next read h.i inside line another in
     let fits = place_fits read one room _ h.i (second_word read h.i inside line another) then.0 then.1 in
     (fits.0, fits.1, fits.2, omega (arith, read.limits.lines_most))
+
+pub loop-i-preserved : goal.loop-i-preserved
+loop-i-preserved c =
+    let h = c.loop-i in
+    let read = c.requires.0 in
+    let room = c.requires.2 in
+    let inside = c.loop-i-test.true in
+    let line = c.line_at-line.ensures in
+    let next = first_next read h.i inside line in
+    let put = c.put_user.ensures in
+    let one = place_taken read h.invariant.2 room _ h.i (first_word read h.i inside line) next.0 next.1 put.0 put.1 in
+    let named = c.names_another.ensures in
+    elim c.if-names_another.branch [
+      | then-names_another w ↦
+          let another = sym named ∙ w.if-names_another.true in
+          let then = second_next read h.i inside line another in
+          let again = w.put_user-then-names_another.ensures in
+          let two = place_taken read one room _ h.i (second_word read h.i inside line another) then.0 then.1 (w.last-is ∙ again.0) (w.out-is ∙ again.1) in
+          let all = placed_as read (after_two read h.i inside line another) two in
+          (omega arith, all.stands.long, all)
+      | else-names_another w ↦
+          let all = placed_as read (after_one read h.i inside line (sym named ∙ w.if-names_another.false)) one in
+          rw (w.last-is, w.out-is) (omega arith, all.stands.long, all)
+    ]
 
 pub returns : goal.returns
 returns c =

@@ -9,9 +9,6 @@ use Rattle.line_questions.proofs.lines_stage.Goals as goal
 pub loop-k-init : goal.loop-k-init
 loop-k-init c = (search rules, search turn)
 
-pub returns : goal.returns
-returns c = search turn depth 12
-
 pub returns-in_default : goal.returns-in_default
 unfolding line_questions
 returns-in_default c =
@@ -25,3 +22,6 @@ loop-k-preserved c =
     let before = c.loop-k.invariant.1 in
     let line = rw c.record_of.ensures at c.record_stage-answer.ensures in
     (search rules, yes_next _ _ before (asked _ _ _ _ line c.in-Accepted.is).0)
+
+pub returns : goal.returns
+returns c = search turn depth 12
