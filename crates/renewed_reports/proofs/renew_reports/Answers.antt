@@ -75,7 +75,7 @@ renew_report-requires-in-loop-i c =
     let count = named_count c.requires.0 c.args.k c.requires.1 c.requires.2 here in (
       c.requires.0,
       named_there c.requires.0 c.args.k c.requires.1 c.requires.2 here c.loop-i.i (omega (arith, count)),
-      c.loop-i.invariant.1 ∙ c.renew_report.auto.report.1.1.0 ∙ c.requires.3,
+      c.loop-i.invariant.1 ∙ c.renew_report.auto.report ∙ c.requires.3,
     )
 
 pub overflow_add-i : goal.overflow_add-i
@@ -98,12 +98,12 @@ loop-i-preserved c =
     let us = users t (input_count t + c.args.k) in
     let inside : h.i < length us = omega (arith, count) in (
       omega arith,
-      c.renew_report-in-loop-i.auto.report.1.1.0 ∙ h.invariant.1,
+      c.renew_report-in-loop-i.auto.report ∙ h.invariant.1,
       renewed_next t us h.i _ h.report inside (named_line c.requires.0 c.args.k c.requires.1 c.requires.2 here h.i inside) c.renew_report-in-loop-i.ensures h.invariant.2,
     )
 
 pub shape_of-report : goal.shape_of-report
-shape_of-report c = c.loop-i.invariant.1 ∙ c.renew_report.auto.report.1.1.0
+shape_of-report c = c.loop-i.invariant.1 ∙ c.renew_report.auto.report
 
 pub returns : goal.returns
 returns c =

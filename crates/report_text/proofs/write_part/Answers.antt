@@ -10,3 +10,12 @@ returns c =
     rw (← wrote_taken (parts_are_within c.args.sheet.now read.accepted c.args.part (omega (arith, read.lines)))
     c.put_report_part-bytes.ensures)
     c.put_part.ensures
+
+pub slice_bounds-put_part-end : goal.slice_bounds-put_part-end
+slice_bounds-put_part-end c =
+    let read = c.requires.0 in
+    omega (
+      arith,
+      parts_are_within c.args.sheet.now read.accepted c.args.part (omega (arith, read.lines)),
+      c.put_report_part-bytes.ensures.next,
+    )

@@ -22,6 +22,12 @@ put_line_block-next-requires c =
     let place = pieces_place (line_block a.a.form t) 512 (line_block_length a.a.form t) h.i h.invariant.2 in
     (c.requires.0, c.requires.1, c.requires.2, omega arith, omega arith)
 
+pub returns : goal.returns
+returns c =
+    let h = c.loop-i in
+    let all : h.i ≡ c.args.blocks = omega arith in
+    rw all at h.invariant.2
+
 pub loop-i-preserved : goal.loop-i-preserved
 loop-i-preserved c =
     let a = c.args in
@@ -29,12 +35,6 @@ loop-i-preserved c =
     let h = c.loop-i in
     let put = c.put_line_block-next in (
       search rules,
-      put.auto.out.1.1.1.1.1.0 ∙ h.invariant.1,
+      put.auto.out ∙ h.invariant.1,
       pieces_next (line_block a.a.form t) 512 (line_block_length a.a.form t) h.i (omega arith) h.invariant.2 put.ensures,
     )
-
-pub returns : goal.returns
-returns c =
-    let h = c.loop-i in
-    let all : h.i ≡ c.args.blocks = omega arith in
-    rw all at h.invariant.2
