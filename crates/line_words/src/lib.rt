@@ -8,6 +8,7 @@ ghost use Rattle.trail.specs.Kinds.{kind_of, uses_second, uses_amount, makes};
 use trail::Line;
 
 // The word of n bits that a line makes from its operands' words.
+#[tactic(auto, unfolding(trail::specs::Kinds::makes, trail::specs::Kinds::kind_of))]
 pub fn word_made(n: u32, line: Line, x: u64, y: u64) -> u64
     requires { (1 ≤ n) × (n ≤ 64) × (x < 2 ^ n)
         × (uses_amount (kind_of line.kind) ≡ true → ((1 ≤ line.amount) × (line.amount < n))) }
