@@ -89,7 +89,7 @@ module _ (s index report : List ℕ) (k d : ℕ) where
           subst (λ (t : List ℕ). SheetRead t h) (sym c) (changed_read read passed.known passed.word),
           passed.known,
           told.index_afresh ∙ ap (λ (t : List ℕ). index_of (trail_of t)) (sym c),
-          ap length told.own_report ∙ report_length read,
+          ap length told.lent_own_report ∙ report_length read,
         )
 
         pub made : {t m : List ℕ} → t ≡ changed_sheet s k d → m ≡ renewed (trail_of t) k report → Ends (accepted 0) m t

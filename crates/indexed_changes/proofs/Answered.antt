@@ -41,8 +41,8 @@ module _ (s index report : List ℕ) (k d : ℕ) where
       let known = ltb-true _ _ (yes_first _ 17 0 _ then) in
       let word = ltb-true _ _ (yes_first _ 14 k _ (yes_rest _ 17 0 _ then)) in
       record {
-        own_index = lent.0;
-        own_report = lent.1;
+        lent_own_index = lent.0;
+        lent_own_report = lent.1;
         right = right s k d accepts known word;
         count = sym told.1;
         sheet = ap (λ (t : Bool). cond t (changed_sheet s k d) s) told.0;

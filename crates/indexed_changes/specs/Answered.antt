@@ -13,8 +13,8 @@ use Rattle.indexed_changes.specs.Theorem.{own_index, own_report}
 -- A call that was not refused was lent the sheet's own index and report. It answers 0, leaves the changed sheet, which is right, and its
 -- report; the index is that sheet's too.
 pub record IndexedMade (s index report : List ℕ) (k d n : ℕ) : Type 0 where
-  pub own_index : index ≡ own_index s
-  pub own_report : report ≡ own_report s
+  pub lent_own_index : index ≡ own_index s
+  pub lent_own_report : report ≡ own_report s
   pub right : ChangedRight s k d
   pub count : n ≡ 0
   pub sheet : indexed_sheet s index report k d ≡ changed_sheet s k d
