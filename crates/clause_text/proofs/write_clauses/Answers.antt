@@ -27,4 +27,4 @@ returns c =
 
 pub slice_bounds-write_list-end : goal.slice_bounds-write_list-end
 slice_bounds-write_list-end c =
-    omega (arith, list_most c.requires.0 c.args.k c.requires.1, c.put_line.ensures.next)
+    omega (arith, list_most c.requires.0 c.args.k c.requires.1, c.put_line-count.ensures.next)

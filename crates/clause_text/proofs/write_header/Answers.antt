@@ -19,4 +19,4 @@ returns c =
 
 pub slice_bounds-put_part-end : goal.slice_bounds-put_part-end
 slice_bounds-put_part-end c =
-    omega (arith, header_most c.requires c.both_counts.ensures, c.put_header.ensures.next)
+    omega (arith, header_most c.requires c.both_counts.ensures, c.put_header-bytes.ensures.next)

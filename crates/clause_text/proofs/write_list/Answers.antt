@@ -28,4 +28,4 @@ returns c =
 
 pub slice_bounds-put_part-end : goal.slice_bounds-put_part-end
 slice_bounds-put_part-end c =
-    omega (arith, text_within 4 c.args.list.now c.requires.0, c.put_list-2.ensures.next)
+    omega (arith, text_within 4 c.args.list.now c.requires.0, c.put_list-bytes-2.ensures.next)

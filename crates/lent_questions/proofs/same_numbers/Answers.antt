@@ -1,11 +1,11 @@
 use Prim.Native.Nat.{◌-◌}
 use native.Mathlib.Omega.{arith}
 use mathlib.Core.Path.{◌≡◌, ap, ◌∙◌}
-use mathlib.Core.Logic.{⊎_elim}
 use lib.ListN.{length}
 use borrow.Author.Rules.{rules}
 use Rattle.lent_questions.proofs.Comparing.{same_to, same_none, same_next, same_no_more}
 use Rattle.lent_questions.proofs.same_numbers.Goals as goal
+use Rattle.lent_questions.proofs.same_numbers.Goals.{then-lent-i, else-lent-i}
 
 pub loop-i-init : goal.loop-i-init
 loop-i-init c = (search rules, same_none c.args.lent.now c.args.own.now)
@@ -18,10 +18,10 @@ loop-i-preserved c =
     let h = c.loop-i in
     let a = c.args in (
       omega arith,
-      ⊎_elim
-          (λ w. w.1 ∙ same_no_more a.lent.now a.own.now h.i w.0.taken)
-          (λ w. w.1 ∙ same_next a.lent.now a.own.now h.i h.invariant.1 w.0.left)
-          c.if-lent-i.branch,
+      elim c.if-lent-i.branch [
+        | then-lent-i w ↦ w.same-is ∙ same_no_more a.lent.now a.own.now h.i w.if-lent-i.true
+        | else-lent-i w ↦ w.same-is ∙ same_next a.lent.now a.own.now h.i h.invariant.1 w.if-lent-i.false
+      ],
     )
 
 pub returns : goal.returns
