@@ -1,0 +1,13 @@
+-- A refusal has room in its buffer.
+use Rattle.std.proofs.Common.{arith, rules, ap, length, replicate}
+use Rattle.buffers.proofs.Overwrite.{overwrite_length}
+use Rattle.texts.specs.Refusals.{refusal_text}
+use Rattle.texts.proofs.Refusals.{refusal_most}
+use Rattle.printing.proofs.print_refusal.Goals as goal
+
+pub slice_bounds-write_all-end : goal.slice_bounds-write_all-end
+slice_bounds-write_all-end g c =
+    let refusal = c.args.refusal in
+    let most = refusal_most refusal.number refusal.place (search rules) (search rules) in
+    let put = c.refusal_text-bytes.ensures in
+    omega (arith, put.next, ap length put.now_is, overwrite_length 0 (refusal_text refusal.number refusal.place) (replicate 64 0) (omega arith))
