@@ -64,15 +64,15 @@ loop-k-preserved c =
     let means = c.report-report.ensures ∙ ap report_of is ∙ ap (line_report t) (sym (zero-add h.k)) in
     elim c.if-not-is_charged.branch [
       | then-not-is_charged w ↦
-      let room : line_numbers * h.count + line_numbers ≤ length h.charged = omega (arith, h.invariant.2.few, c.requires.limits.lines_most) in
-      let charged = w.charge-count.ensures in
-      let step = other_passed h.invariant.2 h.invariant.1 line report means (sym asked.ensures ∙ w.if-not-is_charged.true) room charged.0 charged.1 in
-      let marked = marked_charge h.invariant.4 _ room h.invariant.5 (costs (report_means report)) charged.0 charged.1 charged.2 in
-      rw (w.charged-is, w.count-is, w.marks-is, w.sums-is)
-      (omega arith, w.with_line-next.ensures ∙ step.0, step.1, step.2 ∙ h.invariant.3, marked.0, marked.1)
+          let room : line_numbers * h.count + line_numbers ≤ length h.charged = omega (arith, h.invariant.2.few, c.requires.limits.lines_most) in
+          let charged = w.charge-count.ensures in
+          let step = other_passed h.invariant.2 h.invariant.1 line report means (sym asked.ensures ∙ w.if-not-is_charged.true) room charged.0 charged.1 in
+          let marked = marked_charge h.invariant.4 _ room h.invariant.5 (costs (report_means report)) charged.0 charged.1 charged.2 in
+          rw (w.charged-is, w.count-is, w.marks-is, w.sums-is)
+          (omega arith, w.with_line-next.ensures ∙ step.0, step.1, step.2 ∙ h.invariant.3, marked.0, marked.1)
       | else-not-is_charged w ↦
-      let step = repeat_passed h.invariant.2 h.invariant.1 line report means (sym asked.ensures ∙ w.if-not-is_charged.false) in
-      rw (w.charged-is, w.count-is, w.marks-is, w.sums-is) (omega arith, step.0, step.1, h.invariant.3, h.invariant.4, h.invariant.5)
+          let step = repeat_passed h.invariant.2 h.invariant.1 line report means (sym asked.ensures ∙ w.if-not-is_charged.false) in
+          rw (w.charged-is, w.count-is, w.marks-is, w.sums-is) (omega arith, step.0, step.1, h.invariant.3, h.invariant.4, h.invariant.5)
     ]
 
 pub returns : goal.returns
