@@ -14,41 +14,53 @@
 mod program_texts;
 
 use crate::program_texts::run_text;
+use sheet_input::read_input;
 use std::io;
-use std::io::{BufWriter, Read, Write};
+use std::io::Write;
 use std::rt::Files;
 
+// Room for all cases.
+const CASES_BYTES: usize = 458752;
+
 fn main(rt: HostRuntime) -> io::Result<()> {
-    let mut input = Vec::new(rt.alloc());
-    rt.stdin().read_to_end(&mut input)?;
-    let mut out = BufWriter::new(rt.alloc(), rt.stdout())?;
-    run_lines(&rt, &mut out, &input)?;
-    out.flush()
+    let mut input = [0u8; CASES_BYTES];
+    let n = read_input(&mut rt.stdin(), &mut input)?;
+    run_lines(&rt, &mut rt.stdout(), &input[..n])
 }
 
 // Goes through the lines of the input.
-fn run_lines(files: &impl Files, out: &mut impl Write, input: &[u8]) -> io::Result<()> {
+fn run_lines<R: Files + Eprint>(rt: &R, out: &mut impl Write, input: &[u8]) -> io::Result<()> {
     let mut subject = b's';
     for line in input.split(|byte| *byte == b'\n') {
-        subject = run_line(files, out, line, subject)?;
+        subject = run_line(rt, out, line, subject)?;
     }
     Ok(())
 }
 
 // Answers a case on a subject, or takes up another: the letter after `#`. Tells the next line's subject.
-fn run_line(files: &impl Files, out: &mut impl Write, line: &[u8], subject: u8) -> io::Result<u8> {
+fn run_line<R: Files + Eprint>(
+    rt: &R,
+    out: &mut impl Write,
+    line: &[u8],
+    subject: u8,
+) -> io::Result<u8> {
     if line.len() < 2 {
         return Ok(subject);
     }
     if line[0] == b'#' {
         return Ok(line[1]);
     }
-    run_case(files, out, line, subject)?;
+    run_case(rt, out, line, subject)?;
     Ok(subject)
 }
 
 // Answers a case on a subject.
-fn run_case(files: &impl Files, out: &mut impl Write, line: &[u8], subject: u8) -> io::Result<()> {
+fn run_case<R: Files + Eprint>(
+    rt: &R,
+    out: &mut impl Write,
+    line: &[u8],
+    subject: u8,
+) -> io::Result<()> {
     match subject {
         b's' => sheet_cases::run_case(out, line),
         b'r' => report_cases::run_case(out, line),
@@ -57,6 +69,6 @@ fn run_case(files: &impl Files, out: &mut impl Write, line: &[u8], subject: u8) 
         b'd' => change_cases::run_case(out, line),
         b'l' => change_list_cases::run_case(out, line),
         b'i' => index_cases::run_case(out, line),
-        _ => run_text(files, out, line),
+        _ => run_text(rt, out, line),
     }
 }

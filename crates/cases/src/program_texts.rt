@@ -21,27 +21,30 @@ const INPUT_BYTES: usize = 4609;
 const PART_BYTES: usize = 34608;
 
 // Prints a case and its text.
-pub fn run_text(files: &impl Files, out: &mut impl Write, case: &[u8]) -> io::Result<()> {
+pub fn run_text<R: Files + Eprint>(rt: &R, out: &mut impl Write, case: &[u8]) -> io::Result<()> {
     print(out, case)?;
     print(out, b":\n")?;
     let blank = find(case, 0, b' ');
     if blank < case.len() {
-        print_named(files, out, case[0], &case[blank + 1..])?;
+        print_named(rt, out, case[0], &case[blank + 1..])?;
     }
     Ok(())
 }
 
-// Prints what a letter stands for, of the sheet of a name.
-fn print_named(
-    files: &impl Files,
+// Prints what a letter stands for, of the sheet of a name. Where there is no such file it says so on standard error.
+fn print_named<R: Files + Eprint>(
+    rt: &R,
     out: &mut impl Write,
     letter: u8,
     name: &[u8],
 ) -> io::Result<()> {
     let Ok(path) = str::from_utf8(name) else {
-        return Err(io::Error::from(io::ErrorKind::InvalidInput));
+        return eprintln!(rt; "a name that is no text");
     };
-    print_opened(out, letter, &mut fs::open(files, path)?)
+    match fs::open(rt, path) {
+        Ok(mut file) => print_opened(out, letter, &mut file),
+        Err(error) => eprintln!(rt; "{path}: {error}"),
+    }
 }
 
 fn print_opened(out: &mut impl Write, letter: u8, file: &mut impl Read) -> io::Result<()> {
