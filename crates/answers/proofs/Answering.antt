@@ -1,5 +1,5 @@
 -- How a stage's answer follows from the questions that it asks: rules for `search`.
-use Prim.Native.Nat.{ℕ, ◌+◌, ◌<◌, ◌≤◌}
+use Prim.Native.Nat.{ℕ, ◌<◌, ◌≤◌}
 use mathlib.Core.Path.{◌≡◌, sym, ap, ◌∙◌}
 use mathlib.Core.Bool.{Bool, true, false, ◌&&◌}
 use mathlib.Core.List.{List, ◌++◌}
@@ -10,14 +10,13 @@ use Rattle.sheet.specs.Asking.Verdict.{accepted, refused}
 use Rattle.answers.specs.Answers.{reading_means}
 use Rattle.sheet.specs.declared.Header.{Header}
 use Rattle.answers.specs.declared.Refusal.{Refusal}
-use Rattle.answers.specs.declared.Reading.{Reading}
-use Rattle.answers.specs.declared.Reading.TheVariants.{Accepted, Refused}
+use Rattle.std.specs.Prelude.{Result, Ok, Err}
 use Rattle.sheet.proofs.Asking.{verdict_yes, yes_verdict, yes_none, yes_next, yes_one, stop, stop_at, Comes, comes}
 use Rattle.sheet.proofs.Asking.Comes.{done, yes, no}
 use Rattle.sheet.proofs.Testing.{denied, granted, same_end, within_least, within_most}
 
 -- an answer that a call made
-pub says : (r : Reading) {v w : Verdict Header} → reading_means r ≡ v → v ≡ w → reading_means r ≡ w
+pub says : (r : Result Header Refusal) {v w : Verdict Header} → reading_means r ≡ v → v ≡ w → reading_means r ≡ w
 says r e d = e ∙ d
 
 -- the parts that a call found
@@ -38,12 +37,12 @@ pub ruleset stage = (says, found, comes, yes, no, done, denied, granted, eq-eqb,
 -- ---- stages one after the other
 
 -- what an accepting stage has asked
-pub asked : (qs : List Question) (h : Header) (r : Reading) (g : Header) → reading_means r ≡ verdict qs h → r ≡ Accepted g
+pub asked : (qs : List Question) (h : Header) (r : Result Header Refusal) (g : Header) → reading_means r ≡ verdict qs h → r ≡ Ok g
     → (all_yes qs ≡ true) × (h ≡ g)
 asked qs h r g e d = yes_verdict qs h g (sym e ∙ ap reading_means d)
 
 -- a stage's refusal is the caller's
-pub hand_on : (xs ys : List Question) (h g : Header) (r : Reading) (v : Refusal) → reading_means r ≡ verdict xs h → r ≡ Refused v
+pub hand_on : (xs ys : List Question) (h g : Header) (r : Result Header Refusal) (v : Refusal) → reading_means r ≡ verdict xs h → r ≡ Err v
     → reading_means r ≡ verdict (xs ++ ys) g
 hand_on xs ys h g r v e d = ap reading_means d ∙ sym (stop xs ys h g (sym e ∙ ap reading_means d))
 
@@ -56,7 +55,7 @@ module _ (f : ℕ → List Question) (n k : ℕ) (h : Header) where
   passes l g e = sym (verdict_yes (concat n f) h (ap (λ (i : ℕ). all_yes (concat i f)) (sym (same_end k n l g)) ∙ e))
 
   -- a stage of its own for each number
-  pub hands_on : (r : Reading) (v : Refusal) → k < n → all_yes (concat k f) ≡ true → reading_means r ≡ verdict (f k) h → r ≡ Refused v
+  pub hands_on : (r : Result Header Refusal) (v : Refusal) → k < n → all_yes (concat k f) ≡ true → reading_means r ≡ verdict (f k) h → r ≡ Err v
       → reading_means r ≡ verdict (concat n f) h
   hands_on r v l e d g = ap reading_means g ∙ sym (stop_at f n k h h l e (sym d ∙ ap reading_means g))
 

@@ -15,43 +15,53 @@ use Rattle.sheet.specs.Asking.{Question, all_yes, Verdict, verdict}
 use Rattle.sheet.specs.Asking.Verdict.{accepted, refused}
 use Rattle.sheet.specs.Fields.{header_of}
 use Rattle.sheet.specs.Questions.{questions}
-use Rattle.answers.specs.Answers.{reading_means, refusal_of, answer_of}
+use Rattle.answers.specs.Answers.{number_of, place_of, answer_means, count_means}
 use Rattle.answers.specs.Calls.{writing, written_as, written as written-by}
 use Rattle.sheet.specs.Facts.{SheetRead}
-use Rattle.answers.specs.declared.Answer.{Answer}
 use Rattle.sheet.specs.declared.Header.{Header}
 use Rattle.answers.specs.declared.Refusal.{Refusal}
 use Rattle.sheet.specs.declared.Mode.TheVariants.{Read}
-use Rattle.answers.specs.declared.Reading.{Reading}
-use Rattle.answers.specs.declared.Reading.TheVariants.{Accepted, Refused}
+use Rattle.std.specs.Prelude.{Result, Ok, Err, IsErrAnd}
 use Rattle.sheet.proofs.Asking.{yes_append, go_on, stop, verdict_yes, yes_verdict, no_verdict, comes}
 use Rattle.sheet.proofs.Asking.Comes.{done, yes, no}
-use Rattle.answers.proofs.Answering.{asked}
 use Rattle.sheet.proofs.WellFormed.{has_read}
 
--- a stage that refuses: the call refuses with the same number and place, whatever else it asks
-pub refused_by_stage : (qs own : List Question) (h : Header) {A : Type 0} (a : A) (r : Reading) (v w : Refusal) → reading_means r ≡ verdict qs h
-    → r ≡ Refused v → w ≡ refusal_of r → refused w.number w.place ≡ verdict (qs ++ own) a
-refused_by_stage qs own h a r v w told e d =
-    ap (λ (x : Refusal). refused x.number x.place) (d ∙ ap refusal_of e) ∙ sym (stop qs own h a (sym told ∙ ap reading_means e))
+-- ---- a refusal that a call hands on by `?`
 
--- ---- what reading answered. `search` takes an answer from the context, and the parts in it, so each law asks for these two facts.
+-- it means the same number and place, whatever the call would have answered,
+pub same_refusal : {A B : Type 0} (f : A → B) (x : Result A Refusal) (e : Refusal) → IsErrAnd x (λ w. w ≡ e)
+    → answer_means f x ≡ refused (number_of e) (place_of e)
+same_refusal f (Ok a) e is = absurd is
+same_refusal f (Err w) e is = ap (λ (r : Refusal). refused (number_of r) (place_of r)) is
 
-module _ (s : List ℕ) (r : Reading) (read : reading_means r ≡ verdict (questions Read s) (header_of s)) where
+-- and whatever else it asks
+pub refuses_too : {A B : Type 0} (qs own : List Question) (a : A) (b : B) {n p : ℕ} → refused n p ≡ verdict qs a
+    → refused n p ≡ verdict (qs ++ own) b
+refuses_too qs own a b e = sym (stop qs own a b (sym e))
+
+pub hands_on : {A B C : Type 0} (f : A → B) (qs own : List Question) (c : C) (b : B) (x : Result A Refusal) (e : Refusal)
+    → IsErrAnd x (λ w. w ≡ e) → refused (number_of e) (place_of e) ≡ verdict qs c → answer_means f x ≡ verdict (qs ++ own) b
+hands_on f qs own c b x e is told = same_refusal f x e is ∙ refuses_too qs own c b told
+
+-- ---- what reading answered
+
+module _ (s : List ℕ) where
   -- a sheet that reading refuses
-  pub refused_by_reading : {A : Type 0} (own : List Question) (a : A) (v w : Refusal) → r ≡ Refused v → w ≡ refusal_of r
-      → refused w.number w.place ≡ verdict (questions Read s ++ own) a
-  refused_by_reading own a v w e d = refused_by_stage (questions Read s) own (header_of s) a r v w read e d
+  pub refused_by_reading : {A B : Type 0} (f : A → B) (own : List Question) (b : B) (x : Result A Refusal) (e : Refusal)
+      → IsErrAnd x (λ w. w ≡ e) → refused (number_of e) (place_of e) ≡ verdict (questions Read s) (header_of s)
+      → answer_means f x ≡ verdict (questions Read s ++ own) b
+  refused_by_reading f own b x e is told = hands_on f (questions Read s) own (header_of s) b x e is told
 
   -- the same of a call with no questions of its own
-  pub refused_alone : {A : Type 0} (a : A) (v w : Refusal) → r ≡ Refused v → w ≡ refusal_of r
-      → refused w.number w.place ≡ verdict (questions Read s) a
-  refused_alone a v w e d = refused_by_reading [] a v w e d ∙ ap (λ qs. verdict qs a) (append-nil (questions Read s))
+  pub refused_alone : {A B : Type 0} (f : A → B) (b : B) (x : Result A Refusal) (e : Refusal)
+      → IsErrAnd x (λ w. w ≡ e) → refused (number_of e) (place_of e) ≡ verdict (questions Read s) (header_of s)
+      → answer_means f x ≡ verdict (questions Read s) b
+  refused_alone f b x e is told = refused_by_reading f [] b x e is told ∙ ap (λ qs. verdict qs b) (append-nil (questions Read s))
 
-  module _ (h : Header) (accepts : r ≡ Accepted h) where
+  module _ {h : Header} (read : accepted h ≡ verdict (questions Read s) (header_of s)) where
     -- what reading settles where it accepts
     pub was_read : SheetRead s h
-    was_read = let yes = asked (questions Read s) (header_of s) r h read accepts in has_read s h yes.0 yes.1
+    was_read = let yes = yes_verdict (questions Read s) (header_of s) h (sym read) in has_read s h yes.0 yes.1
 
     -- the call's own questions are asked,
     pub asks_own : {A : Type 0} (own : List Question) (a : A) {v : Verdict A} → v ≡ verdict own a → v ≡ verdict (questions Read s ++ own) a
@@ -98,17 +108,6 @@ pub ruleset calling = (
   long_enough,
 )
 
--- ---- the struct for C, from an answer to the same questions
-
-module _ {A : Type 0} (qs : List Question) (a : A) {r : Answer} where
-  pub c_given : (f : A → ℕ) {b : A} → verdict qs a ≡ accepted b → r ≡ answer_of (accepted (f b)) → r ≡ answer_of (verdict qs (f a))
-  c_given f {b} e d =
-      let yes = yes_verdict qs a b e in
-      d ∙ ap (λ (x : A). answer_of (accepted (f x))) (sym yes.1) ∙ ap answer_of (sym (verdict_yes qs (f a) yes.0))
-
-  pub c_refused : (b : ℕ) {n p : ℕ} → verdict qs a ≡ refused n p → r ≡ answer_of (refused n p) → r ≡ answer_of (verdict qs b)
-  c_refused b e d = d ∙ ap answer_of (sym (ap (λ l. verdict l b) (sym (append-nil qs)) ∙ stop qs [] a b e))
-
 -- ---- what a call that writes leaves
 
 -- questions that are answered with yes leave the others to decide
@@ -126,6 +125,13 @@ module _ {A : Type 0} (asks : List Question) (values out : List A) where
   unfolding writing
   kept e = (e, ap (λ t. cond t (overwrite 0 values out) out) (sym (no_verdict asks (length values) (sym e))))
 
+  -- nor does one that is handed on by `?`
+  pub kept_too : (x : Result ℕ Refusal) (e : Refusal) → IsErrAnd x (λ w. w ≡ e)
+      → refused (number_of e) (place_of e) ≡ verdict asks (length values)
+      → (count_means x ≡ (writing asks values out).answer) × (out ≡ (writing asks values out).buffer)
+  unfolding writing
+  kept_too x e is told = let k = kept told in (same_refusal (λ n. n) x e is ∙ k.0, k.1)
+
   -- what was written from the start is counted by the next position
   pub written : {p : ℕ} {after : List A} → Wrote 0 values out p after → accepted (length values) ≡ verdict asks (length values)
       → (accepted p ≡ (writing asks values out).answer) × (after ≡ (writing asks values out).buffer)
@@ -134,16 +140,6 @@ module _ {A : Type 0} (asks : List Question) (values out : List A) where
     ap accepted (w.next ∙ zero-add (length values)) ∙ e,
     w.now_is ∙ ap (λ t. cond t (overwrite 0 values out) out) (sym (yes_verdict asks (length values) _ (sym e)).0),
   )
-
-  -- the same with the struct for C
-  pub c_kept : {r : Answer} {n p : ℕ} → r ≡ answer_of (refused n p) → refused n p ≡ verdict asks (length values)
-      → (r ≡ answer_of (writing asks values out).answer) × (out ≡ (writing asks values out).buffer)
-  c_kept d e = let k = kept e in (d ∙ ap answer_of k.0, k.1)
-
-  pub c_written : {r : Answer} {p : ℕ} {after : List A} → r ≡ answer_of (accepted p) → Wrote 0 values out p after
-      → accepted (length values) ≡ verdict asks (length values)
-      → (r ≡ answer_of (writing asks values out).answer) × (after ≡ (writing asks values out).buffer)
-  c_written d w e = let k = written w e in (d ∙ ap answer_of k.0, k.1)
 
 -- with yes to all that it asks, a call has written its values
 pub written_values : {A : Type 0} (asks : List Question) (values out : List A) → all_yes asks ≡ true → length values ≤ length out

@@ -1,5 +1,5 @@
--- What the code has left and replied after the first i pairs, and that a refusal's number is a byte.
-use Prim.Native.Nat.{ℕ, suc, ◌+◌, ◌*◌, ◌/◌, ◌<◌, ◌≤◌}
+-- What the code has left and replied after the first i pairs.
+use Prim.Native.Nat.{ℕ, ◌+◌, ◌*◌, ◌/◌, ◌<◌, ◌≤◌}
 use native.Mathlib.Numerals.{add-one}
 use native.Mathlib.Omega.{arith}
 use mathlib.Core.Path.{◌≡◌, refl, sym, ap, ap₂, subst, ◌∙◌}
@@ -13,37 +13,15 @@ use Rattle.words.proofs.Below.{length_tabulate}
 use Rattle.buffers.specs.Overwrite.{Wrote}
 use Rattle.buffers.proofs.Overwrite.{overwrite_length}
 use Rattle.buffers.proofs.Appending.{wrote_none, wrote_set, wrote_append}
-use Rattle.sheet.specs.Asking.{Verdict, verdict}
+use Rattle.sheet.specs.Asking.{verdict}
 use Rattle.sheet.specs.Asking.Verdict.{accepted, refused}
 use Rattle.sheet.specs.Facts.{SheetRead}
 use Rattle.sheet.specs.declared.Header.{Header}
-use Rattle.answers.specs.Answers.{reading_means, refusal_of}
-use Rattle.answers.specs.declared.Reading.{Reading}
-use Rattle.answers.specs.declared.Reading.TheVariants.{Refused}
-use Rattle.answers.specs.declared.Refusal.{Refusal}
 use Rattle.changed_sheets.specs.ChangeCall.{change_questions, change_call}
 use Rattle.change_lists.specs.Pairs.{Pair, pairs_of}
 use Rattle.change_lists.specs.Applied.{sheet_after, reply_of, replies_to}
 use Rattle.change_lists.proofs.Pairs.{pair_at, pairs_tabulated}
 use Rattle.change_lists.proofs.Lists.{after_last, replies_last, replies_count, list_read}
-
--- ---- one pair
-
--- 17 or 14
-number_small : (h : Header) (k d : ℕ) {n p : ℕ} → verdict (change_questions h k d) h ≡ refused n p → n ≤ 17
-unfolding verdict
-number_small h k d {n} {p} e = at (ltb k h.lines) (is_word h.width d) e
-  where
-    at : (t w : Bool) → cond t (cond w (accepted h) (refused 14 k)) (refused 17 0) ≡ refused n p → n ≤ 17
-    at true true e = let z : ◌≡◌ {A = ℕ} 0 1 = cc in absurd (omega arith)
-    at true false e = let z : 14 ≡ n = cc in omega arith
-    at false w e = let z : 17 ≡ n = cc in omega arith
-
--- in a refusal that the stage has made
-pub refused_small : (h : Header) (k d : ℕ) {r : Reading} {v w : Refusal} → reading_means r ≡ verdict (change_questions h k d) h → r ≡ Refused v
-    → w ≡ refusal_of r → w.number ≤ 17
-refused_small h k d {r} {v} {w} told e g =
-    number_small h k d (sym told ∙ ap reading_means e ∙ sym (ap (λ (x : Refusal). refused x.number x.place) (g ∙ ap refusal_of e)))
 
 -- ---- the first i pairs
 

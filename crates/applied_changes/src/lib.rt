@@ -9,7 +9,7 @@ ghost use Rattle.changed_sheets.specs.ChangeCall.{change_call};
 ghost use Rattle.change_lists.specs.Pairs.{pairs_of};
 ghost use Rattle.change_lists.specs.Applied.{sheet_after, reply_of, replies_to};
 
-use answers::{Reading, refusal_of};
+use answers::Refusal;
 use sheet::Header;
 use sheet_changes::{change_difference, change_stage};
 
@@ -19,10 +19,9 @@ fn apply_pair(sheet: &mut [u8], header: Header, k: usize, difference: u64) -> u8
     ensures { (result ≡ reply_of (change_call sheet.old k difference).answer)
         × (sheet.new ≡ (change_call sheet.old k difference).buffer) }
 {
-    let asked = change_stage(header, k, difference);
-    let Reading::Accepted(_) = asked else {
-        return refusal_of(asked).number as u8;
-    };
+    if let Err(refusal) = change_stage(header, k, difference) {
+        return refusal.number() as u8;
+    }
     change_difference(sheet, header, k, difference);
     0
 }
@@ -35,10 +34,8 @@ pub fn apply_pairs(sheet: &mut [u8], header: Header, pairs: &[u64], replies: &mu
         × (sheet.new ≡ sheet_after sheet.old (pairs_of pairs.now)) }
 {
     let count = pairs.len() / 2;
-    let mut i = 0;
-    while i < count {
+    for i in 0..count {
         replies[i] = apply_pair(sheet, header, pairs[2 * i] as usize, pairs[2 * i + 1]);
-        i += 1;
     }
-    i
+    count
 }

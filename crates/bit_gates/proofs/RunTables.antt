@@ -17,7 +17,7 @@ use Rattle.clause_lists.specs.Kinds.{Taken, Carries, gates, has_carries, taken_i
 use Rattle.clause_lists.specs.Kinds.Taken.{bit_at, no_bit}
 use Rattle.clause_lists.specs.Kinds.Carries.{none, made}
 use Rattle.run_literals.specs.declared.LineRun.{LineRun}
-use Rattle.run_literals.specs.Run.{word_in, carry_in, ProperRun}
+use Rattle.run_literals.specs.Run.{word_in, carry_in}
 use Rattle.bit_gates.specs.Gates.{others_in, carries_in, inputs_in, function_as, function_of, IsTable}
 use Rattle.run_literals.proofs.KindRows.{no_constant, carries_add}
 use Rattle.bit_gates.proofs.GateTables.{known_ones, parity_table, carry_table, less_lowest, less_above}
@@ -68,7 +68,7 @@ module _ (second : ℤ) (b : Bool) (is : List Input) where
 
 -- ---- of a run
 
-module _ {r : LineRun} (proper : ProperRun r) (i : ℕ) where
+module _ (r : LineRun) (i : ℕ) where
   abbrev q : Kind
   q = kind_of r.line.kind
 
@@ -79,11 +79,11 @@ module _ {r : LineRun} (proper : ProperRun r) (i : ℕ) where
   second = word_in r r.line.second i
 
   unused : uses_constant q ≡ false → b ≡ false
-  unused e = ap (λ (x : ℕ). bit x i) (proper.line_right.constant_unused e) ∙ bit_none i
+  unused e = ap (λ (x : ℕ). bit x i) (r.proper.line_right.constant_unused e) ∙ bit_none i
 
   beside_second : uses_second q ≡ true → b ≡ false
   beside_second e =
-      let within = known_within r.line.kind proper.line_right.kind_known in
+      let within = known_within r.line.kind r.proper.line_right.kind_known in
       unused (no_constant r.line.kind within.0 within.1 e)
 
   known_ones_lem : known_ones (inputs_in r i) ≡ value b

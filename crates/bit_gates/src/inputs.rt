@@ -1,7 +1,7 @@
 // The literals among the inputs of a bit, gathered in an array.
 ghost use Rattle.std.specs.Prelude.{[], ◌∷◌, ◌++◌, ◌+◌, ◌<◌};
 ghost use Rattle.cnf.specs.Gates.{literals};
-ghost use Rattle.run_literals.specs.Run.{ProperRun, taken_in, CanNegate};
+ghost use Rattle.run_literals.specs.Run.{taken_in, CanNegate};
 ghost use Rattle.bit_gates.specs.Gates.{others_in, carries_in, inputs_in, gathered, Gathers};
 
 use run_literals::LineRun;
@@ -17,7 +17,7 @@ pub struct Inputs {
 
 // The literals of bit i: the first operand's, the second's and the carry's, those that the kind has.
 pub fn gather(run: LineRun, i: u32) -> Inputs
-    requires { ProperRun run × (i < run.width) }
+    requires { i < run.width }
     ensures { Gathers 3 (literals (inputs_in run i)) result }
 {
     let first = first_input(run, i);
@@ -27,7 +27,7 @@ pub fn gather(run: LineRun, i: u32) -> Inputs
 
 // The bit that the first operand gives, unless a zero is filled in.
 fn first_input(run: LineRun, i: u32) -> Inputs
-    requires { ProperRun run × (i < run.width) }
+    requires { i < run.width }
     ensures { Gathers 1 (literals (taken_in run i ∷ [])) result }
 {
     let none = Inputs {
@@ -43,7 +43,7 @@ fn first_input(run: LineRun, i: u32) -> Inputs
 
 // The second operand's too, where the kind has one.
 fn with_second(inputs: Inputs, run: LineRun, i: u32) -> Inputs
-    requires { Gathers 1 (gathered inputs) inputs × ProperRun run × (i < run.width) }
+    requires { Gathers 1 (gathered inputs) inputs × (i < run.width) }
     ensures { Gathers 2 (gathered inputs ++ literals (others_in run i)) result }
 {
     let line = run.line;
@@ -56,7 +56,7 @@ fn with_second(inputs: Inputs, run: LineRun, i: u32) -> Inputs
 
 // The carry's too, where the kind has carries. None enters bit 0.
 fn with_carry(inputs: Inputs, run: LineRun, i: u32) -> Inputs
-    requires { Gathers 2 (gathered inputs) inputs × ProperRun run × (i < run.width) }
+    requires { Gathers 2 (gathered inputs) inputs × (i < run.width) }
     ensures { Gathers 3 (gathered inputs ++ literals (carries_in run i)) result }
 {
     if i == 0 {

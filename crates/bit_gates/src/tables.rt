@@ -4,7 +4,6 @@
 ghost use Rattle.std.specs.Prelude.{◌≡◌, true, ◌<◌};
 ghost use Rattle.trail.specs.Kinds.{kind_of};
 ghost use Rattle.clause_lists.specs.Kinds.{parity, has_carries};
-ghost use Rattle.run_literals.specs.Run.{ProperRun};
 ghost use Rattle.bit_gates.specs.Gates.{inputs_in, function_of, IsTable};
 
 use arithmetic::bit;
@@ -24,7 +23,7 @@ const BORROW_FROM_LOWEST: u32 = 0b0010;
 
 // The result's bit i: the XOR of its inputs.
 pub(crate) fn result_table(run: LineRun, i: u32) -> u32
-    requires { ProperRun run × (i < run.width) }
+    requires { i < run.width }
     ensures { IsTable parity (inputs_in run i) result }
 {
     let line = run.line;
@@ -34,7 +33,7 @@ pub(crate) fn result_table(run: LineRun, i: u32) -> u32
 // The carry out of bit i: whether two or more of the inputs are 1. A borrow: whether the first is less than the others together, of
 // which there are two above bit 0.
 pub(crate) fn carry_table(run: LineRun, i: u32) -> u32
-    requires { ProperRun run × (i < run.width) × (has_carries (kind_of run.line.kind) ≡ true) }
+    requires { (i < run.width) × (has_carries (kind_of run.line.kind) ≡ true) }
     ensures { IsTable (function_of run 1) (inputs_in run i) result }
 {
     let line = run.line;

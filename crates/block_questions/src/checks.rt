@@ -8,7 +8,7 @@ ghost use Rattle.sheet.specs.Questions.{check_question};
 ghost use Rattle.sheet.specs.Facts.{Whole};
 ghost use Rattle.answers.specs.Answers.{reading_means};
 
-use answers::{Reading, refused};
+use answers::Refusal;
 use buffers::u32_at;
 use sheet::Header;
 
@@ -18,10 +18,8 @@ pub fn number_sum(s: &[u8], at: usize, count: usize) -> u32
     ensures { result ≡ total count (λ j. number_at 4 s.now (at + 4 * j)) % 2 ^ 32 }
 {
     let mut sum: u32 = 0;
-    let mut j = 0;
-    while j < count {
+    for j in 0..count {
         sum = std::num::wrapping_add_u32(sum, u32_at(s, at + 4 * j));
-        j += 1;
     }
     sum
 }
@@ -43,17 +41,15 @@ fn check_right(s: &[u8], block: usize) -> bool
 }
 
 // Question 2 of every block.
-pub fn check_stage(s: &[u8], header: Header) -> Reading
+pub fn check_stage(s: &[u8], header: Header) -> Result<Header, Refusal>
     requires { Whole s.now header }
     ensures { reading_means result ≡ verdict (concat header.blocks (check_question s.now)) header }
 {
     let blocks = header.blocks;
-    let mut block = 0;
-    while block < blocks {
+    for block in 0..blocks {
         if !check_right(s, block) {
-            return refused(2, block);
+            return Err(Refusal::Check(block));
         }
-        block += 1;
     }
-    Reading::Accepted(header)
+    Ok(header)
 }

@@ -8,7 +8,7 @@ ghost use Rattle.sheet.specs.Questions.{zero_bytes, block_rest, rest_question};
 ghost use Rattle.sheet.specs.Facts.{Whole};
 ghost use Rattle.answers.specs.Answers.{reading_means};
 
-use answers::{Reading, refused};
+use answers::Refusal;
 use sheet::{Form, Header};
 use sheet_fields::predicates::zero_bytes;
 use sheet_fields::sizes::{record_bytes, records_in_block};
@@ -40,17 +40,15 @@ fn block_rest(s: &[u8], header: Header, i: usize) -> bool
 }
 
 // Question 16 of every line block.
-pub fn rest_stage(s: &[u8], header: Header) -> Reading
+pub fn rest_stage(s: &[u8], header: Header) -> Result<Header, Refusal>
     requires { Whole s.now header }
     ensures { reading_means result ≡ verdict (concat (header.blocks - 1) (rest_question s.now header)) header }
 {
     let line_blocks = header.blocks - 1;
-    let mut i = 0;
-    while i < line_blocks {
+    for i in 0..line_blocks {
         if !block_rest(s, header, i) {
-            return refused(16, 1 + i);
+            return Err(Refusal::Rest(1 + i));
         }
-        i += 1;
     }
-    Reading::Accepted(header)
+    Ok(header)
 }

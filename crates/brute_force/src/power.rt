@@ -12,11 +12,9 @@ pub fn digits_of_power(number: u64) -> u64
 {
     let mut power = [0u64; LIMBS];
     power[0] = 1;
-    let mut i: usize = 0;
-    while i < 16 {
+    for _ in 0..16 {
         let next = times(power, number);
         power = next;
-        i += 1;
     }
     digits(power)
 }
@@ -27,12 +25,10 @@ fn times(limbs: [u64; LIMBS], number: u64) -> [u64; LIMBS]
 {
     let mut product = [0u64; LIMBS];
     let mut carry = 0;
-    let mut i = 0;
-    while i < LIMBS {
-        let sum = limb_times(limbs[i], number) + carry;
+    for (i, limb) in limbs.iter().enumerate() {
+        let sum = limb_times(*limb, number) + carry;
         product[i] = sum % 65536;
         carry = sum / 65536;
-        i += 1;
     }
     product
 }
@@ -48,10 +44,8 @@ fn limb_times(limb: u64, number: u64) -> u64
 // How many binary digits a number has.
 fn digits(limbs: [u64; LIMBS]) -> u64 {
     let mut count = 0;
-    let mut i = 0;
-    while i < LIMBS {
-        count = digits_with(count, i as u64, limbs[i]);
-        i += 1;
+    for (i, limb) in limbs.iter().enumerate() {
+        count = digits_with(count, i as u64, *limb);
     }
     count
 }

@@ -3,9 +3,9 @@ use mathlib.Core.Path.{◌≡◌, refl, sym, ap, ◌∙◌}
 use mathlib.Core.List.{List, [], ◌∷◌, ◌++◌}
 use Prim.Native.Nat.{ℕ, ◌+◌, ◌-◌, ◌≤◌, ◌<◌}
 use native.Mathlib.Omega.{arith}
-use lib.ListN.{length, take, set, length-append}
+use lib.ListN.{length, take, drop, set, length-append}
 use Rattle.buffers.specs.Overwrite.{overwrite, Wrote}
-use Rattle.buffers.proofs.Overwrite.{overwrite_nil, overwrite_length, overwrite_twice, set_overwrite, take_overwrite}
+use Rattle.buffers.proofs.Overwrite.{overwrite_nil, overwrite_all, overwrite_part, overwrite_length, overwrite_twice, set_overwrite, take_overwrite}
 
 module _ {A : Type 0} where
   -- All of `all` is to be written over l from `at` on, and there is room: l is now m, and rest is still to be written from p on.
@@ -22,6 +22,11 @@ module _ {A : Type 0} where
   -- one store
   pub wrote_set : (at : ℕ) (v : A) (l : List A) → at < length l → Wrote at (v ∷ []) l (at + 1) (set l at v)
   wrote_set at v l h = record { next = refl; now_is = set_overwrite at v l h }
+
+  -- a part `&mut s[at..p]` comes back with new in it
+  pub wrote_part : (at k : ℕ) {new l : List A} {p : ℕ} {m : List A} → length new ≡ k → p ≡ at + k → m ≡ new
+      → Wrote at new l p (take at l ++ (m ++ drop k (drop at l)))
+  wrote_part at k {new} {l} e next is = record { next = omega arith; now_is = rw is (overwrite_part at k l new e) }
 
   -- two runs of writes are one
   pub wrote_append : {at : ℕ} {a b l : List A} {p q : ℕ} {m k : List A} → at + length a ≤ length l → Wrote at a l p m
@@ -55,6 +60,10 @@ module _ {A : Type 0} where
   -- all is written
   pub left_done : {at : ℕ} {all l : List A} {p : ℕ} {m rest₀ : List A} → rest₀ ≡ [] → Left at all l p rest₀ m → Wrote at all l p m
   left_done {p = p} {m = m} e h = record { next = omega (arith, ap length e); now_is = cc (overwrite_nil p m) }
+
+  -- all of a part is written over
+  pub left_whole : {all l : List A} {p : ℕ} {m rest₀ : List A} → length all ≡ length l → rest₀ ≡ [] → Left 0 all l p rest₀ m → m ≡ all
+  left_whole {all} {l} e f h = (left_done f h).now_is ∙ overwrite_all all l e
 
   -- `left_take` and `left_done` where the rest is taken apart already
   pub left_step : {at : ℕ} {all l : List A} {p : ℕ} {m : List A} (new rest : List A) {q : ℕ} {k : List A}

@@ -36,11 +36,9 @@ pub fn put_number(s: &mut [u8], at: usize, k: usize, number: u64) -> usize
     ensures { Wrote at (bytes_of k number) s.old result s.new }
 {
     let mut rest = number;
-    let mut i = 0;
-    while i < k {
-        s[at + i] = (rest % 256) as u8;
+    for byte in &mut s[at..at + k] {
+        *byte = (rest % 256) as u8;
         rest /= 256;
-        i += 1;
     }
     at + k
 }
@@ -50,10 +48,7 @@ pub fn put_all(out: &mut [u64], values: &[u64]) -> usize
     requires { length values.now ≤ length out.old }
     ensures { Wrote 0 values.now out.old result out.new }
 {
-    let mut next = 0;
-    while next < values.len() {
-        out[next] = values[next];
-        next += 1;
-    }
-    next
+    let count = values.len();
+    out[..count].copy_from_slice(values);
+    count
 }

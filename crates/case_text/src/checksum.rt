@@ -8,8 +8,8 @@ pub fn with_number(checksum: u64, number: u64) -> u64 {
 // The checksum with more bytes, each as the bits in which it is not `before`.
 pub fn with_bytes(checksum: u64, bytes: &[u8], before: u8) -> u64 {
     let mut sum = checksum;
-    for i in 0..bytes.len() {
-        sum = with_number(sum, bytes[i] as u64 ^ before as u64);
+    for byte in bytes {
+        sum = with_number(sum, (*byte ^ before) as u64);
     }
     sum
 }

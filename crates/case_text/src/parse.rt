@@ -13,14 +13,10 @@ pub fn find(text: &[u8], from: usize, byte: u8) -> usize
     requires { from ≤ length text.now }
     ensures { (from ≤ result) × (result ≤ length text.now) }
 {
-    let mut at = from;
-    while at < text.len() {
-        if text[at] == byte {
-            return at;
-        }
-        at += 1;
+    match text[from..].iter().position(|other| *other == byte) {
+        Some(passed) => from + passed,
+        None => text.len(),
     }
-    at
 }
 
 // The number whose digits start at `from`.
@@ -28,16 +24,16 @@ pub fn number(text: &[u8], from: usize) -> Numeral
     ensures { (from ≤ result.next) × (from < length text.now → from < result.next) }
 {
     let mut value = 0;
-    let mut at = from;
-    while at < text.len() {
+    for at in from..text.len() {
         let byte = text[at];
-        at += 1;
+        let next = at + 1;
         match byte {
             b'0'..=b'9' => value = with_digit(value, byte - b'0'),
-            _ => return Numeral { value, next: at },
+            _ => return Numeral { value, next },
         }
     }
-    Numeral { value, next: at }
+    let next = from.max(text.len());
+    Numeral { value, next }
 }
 
 // A number with one more digit. One that would pass the largest of 64 bits stays as it is.
@@ -53,15 +49,15 @@ fn with_digit(value: usize, digit: u8) -> usize {
 // Fills the words with the numbers of a line, and tells the position after them.
 pub fn take_words(words: &mut [u64], line: &[u8], from: usize) -> usize {
     let mut next = from;
-    for j in 0..words.len() {
-        let word = number(line, next);
-        words[j] = word.value as u64;
-        next = word.next;
+    for word in words.iter_mut() {
+        let read = number(line, next);
+        *word = read.value as u64;
+        next = read.next;
     }
     next
 }
 
-// Sets the bytes that a line lists from `from` on, each as OFFSET=VALUE.
+// Sets the bytes that a line lists from `from` on, each as OFFSET=VALUE. Each value tells where the next pair begins.
 pub fn fill(sheet: &mut [u8], line: &[u8], from: usize) {
     let mut at = from;
     while at < line.len() {

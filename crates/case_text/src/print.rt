@@ -3,23 +3,9 @@ ghost use Rattle.std.specs.Prelude.{◌++◌, OnOk, codes, decimal};
 ghost use Rattle.std.specs.Io.KnownBytes.{Appends};
 ghost use Rattle.case_text.specs.Hexadecimal.{hexadecimal};
 
+use std::fmt::Display;
 use std::io;
 use std::io::Write;
-
-// A text.
-pub fn print<W: Write>(out: &mut W, text: &[u8]) -> io::Result<()>
-    ensures { OnOk result (Appends (W.contents out.old) (W.contents out.new) text.now) }
-{
-    out.write_all(text)
-}
-
-// A number in decimal, after a text.
-pub fn print_number<W: Write>(out: &mut W, before: &[u8], number: u64) -> io::Result<()>
-    ensures { OnOk result (Appends (W.contents out.old) (W.contents out.new) (before.now ++ decimal number)) }
-{
-    print(out, before)?;
-    write!(out, "{number}")
-}
 
 // A refusal: ` refused NUMBER PLACE`.
 pub fn print_refused<W: Write>(out: &mut W, number: u32, place: u64) -> io::Result<()>
@@ -35,6 +21,14 @@ pub fn print_bytes<W: Write>(out: &mut W, bytes: &[u8]) -> io::Result<()>
 {
     for byte in bytes {
         write!(out, "{byte:02x}")?;
+    }
+    Ok(())
+}
+
+// Numbers, each after a blank.
+pub fn print_numbers<W: Write, T: Display>(out: &mut W, numbers: &[T]) -> io::Result<()> {
+    for number in numbers {
+        write!(out, " {number}")?;
     }
     Ok(())
 }

@@ -3,15 +3,14 @@
 // A case is a line `TEXT FILE`, and FILE is the name of a sheet. After the case its text is printed: the `report` of the sheet, its
 // `clauses`, or the `header` of these. Of a text of megabytes the `digest` is printed instead: a checksum of all parts of the clause
 // file, in order, and of the refusals of those past the last.
+use answers::Refusal;
 use case_text::checksum::{with_bytes, with_number};
 use case_text::parse::find;
-use case_text::print::{print, print_number};
 use printing::Text;
 use sheet_input::read_input;
 use std::io::{Read, Write};
 use std::rt::Files;
 use std::{fs, io, str};
-use text_parts::PartAnswer;
 use texts::clause_text;
 
 // One byte more than any sheet has.
@@ -22,8 +21,8 @@ const PART_BYTES: usize = 34608;
 
 // Prints a case and its text.
 pub fn run_text<R: Files + Eprint>(rt: &R, out: &mut impl Write, case: &[u8]) -> io::Result<()> {
-    print(out, case)?;
-    print(out, b":\n")?;
+    out.write_all(case)?;
+    writeln!(out, ":")?;
     let blank = find(case, 0, b' ');
     if blank < case.len() {
         print_named(rt, out, case[0], &case[blank + 1..])?;
@@ -66,10 +65,10 @@ fn print_header(out: &mut impl Write, file: &mut impl Read) -> io::Result<()> {
 }
 
 // Prints a part where it was written.
-fn print_part(out: &mut impl Write, answer: PartAnswer, part: &[u8]) -> io::Result<()> {
-    if let PartAnswer::Written(bytes) = answer {
+fn print_part(out: &mut impl Write, answer: Result<usize, Refusal>, part: &[u8]) -> io::Result<()> {
+    if let Ok(bytes) = answer {
         if bytes <= part.len() {
-            print(out, &part[0..bytes])?;
+            out.write_all(&part[0..bytes])?;
         }
     }
     Ok(())
@@ -79,8 +78,7 @@ fn print_part(out: &mut impl Write, answer: PartAnswer, part: &[u8]) -> io::Resu
 fn print_digest(out: &mut impl Write, file: &mut impl Read) -> io::Result<()> {
     let mut input = [0u8; INPUT_BYTES];
     let n = read_input(file, &mut input)?;
-    print_number(out, b"", digest(&input[..n]))?;
-    print(out, b"\n")
+    writeln!(out, "{}", digest(&input[..n]))
 }
 
 // The checksum of all parts that a clause file can have and one more, which every sheet refuses.
@@ -95,10 +93,10 @@ fn digest(sheet: &[u8]) -> u64 {
 }
 
 // The checksum with one part more. A refusal counts as a number that is no byte.
-fn with_part(checksum: u64, answer: PartAnswer, out: &[u8]) -> u64 {
+fn with_part(checksum: u64, answer: Result<usize, Refusal>, out: &[u8]) -> u64 {
     match answer {
-        PartAnswer::Written(bytes) => with_first(checksum, out, bytes),
-        PartAnswer::Refused(refusal) => with_number(checksum, 1000 + refusal.number as u64),
+        Ok(bytes) => with_first(checksum, out, bytes),
+        Err(refusal) => with_number(checksum, 1000 + refusal.number() as u64),
     }
 }
 

@@ -47,7 +47,8 @@ struct Chains {
     number: u32,
 }
 
-// The chains of all positions below n, from the highest down. Most positions end no chain, so that it goes by the ones of a word.
+// The chains of all positions below n, from the highest down. Most positions end no chain, so that it goes by the ones of a
+// word, each of which it takes away, and not by a range.
 fn all_chains(n: u32, a: u64, u: u64, v: u64) -> Chains
     requires { (1 ≤ n) × (n ≤ 32) × (a < 2 ^ n) × (v < 2 ^ n) × (0 < constant_fitting n a u v) }
     ensures { (result.cost.0 ≡ total n (chain_cost a u v)) × (result.number ≡ chains n u v) × (result.cost.0 ≤ unit * n) }

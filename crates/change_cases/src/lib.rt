@@ -11,9 +11,10 @@ mod trials;
 ghost use Rattle.std.specs.Prelude.{◌≡◌, ◌≤◌, length};
 
 use crate::trials::print_trials;
+use answers::Refusal;
 use case_text::parse::{find, number, take_sheet};
-use case_text::print::{print, print_number, print_refused};
-use changing::{ChangeAnswer, change};
+use case_text::print::print_refused;
+use changing::change;
 use sheet_cases::print::{print_answer, print_changes};
 use std::io;
 use std::io::Write;
@@ -24,10 +25,10 @@ const SHEET_BYTES: usize = 5120;
 // Answers one line: its name, and what it comes to.
 pub fn run_case(out: &mut impl Write, line: &[u8]) -> io::Result<()> {
     let colon = find(line, 0, b':');
-    print(out, &line[0..colon])?;
-    print(out, b":")?;
+    out.write_all(&line[0..colon])?;
+    write!(out, ":")?;
     take_case(out, line, colon)?;
-    print(out, b"\n")
+    writeln!(out)
 }
 
 // Answers a case whose name ends at the colon.
@@ -82,7 +83,7 @@ fn run_claim(
     print_trials(out, sheet, k.value, difference.value as u64, made, copy)
 }
 
-// Makes one change after the other.
+// Makes one change after the other. Each tells where the next begins.
 fn run_changes(
     out: &mut impl Write,
     line: &[u8],
@@ -113,21 +114,20 @@ fn run_change(
 ) -> io::Result<()>
     requires { length copy.old ≡ length sheet.old }
 {
-    print_number(out, b"\n  line ", k as u64)?;
-    print_number(out, b" to ", difference)?;
+    write!(out, "\n  line {k} to {difference}")?;
     let made = change(copy, k, difference);
     print_made(out, made)?;
     print_changes(out, sheet, copy)?;
     print_answer(out, b", read", reading::read(copy))?;
     print_trials(out, sheet, k, difference, made, copy)?;
-    change(sheet, k, difference);
+    let _ = change(sheet, k, difference);
     print_changes(out, copy, sheet)
 }
 
 // The answer of `changing::change`: ` changed`, or a refusal.
-pub fn print_made(out: &mut impl Write, made: ChangeAnswer) -> io::Result<()> {
+pub fn print_made(out: &mut impl Write, made: Result<(), Refusal>) -> io::Result<()> {
     match made {
-        ChangeAnswer::Changed => print(out, b" changed"),
-        ChangeAnswer::Refused(refusal) => print_refused(out, refusal.number, refusal.place),
+        Ok(()) => write!(out, " changed"),
+        Err(refusal) => print_refused(out, refusal.number(), refusal.place()),
     }
 }

@@ -1,10 +1,11 @@
 // What trying a change answers for buffers of three lengths, held against changing a copy and reporting on it.
 ghost use Rattle.std.specs.Prelude.{◌≤◌};
 
+use answers::Refusal;
 use case_text::checksum::with_bytes;
-use case_text::print::{print, print_number, print_refused};
-use changing::{ChangeAnswer, trial};
-use report::{BufferAnswer, write_reports};
+use case_text::print::print_refused;
+use changing::trial;
+use report::write_reports;
 use report_buffer::REPORT_BYTES;
 use report_cases::whole::lines_of;
 use std::io;
@@ -20,7 +21,7 @@ pub fn print_trials(
     sheet: &[u8],
     k: usize,
     difference: u64,
-    made: ChangeAnswer,
+    made: Result<(), Refusal>,
     copy: &[u8],
 ) -> io::Result<()> {
     let need = REPORT_BYTES * lines_of(sheet);
@@ -37,7 +38,7 @@ fn print_trial(
     sheet: &[u8],
     k: usize,
     difference: u64,
-    made: ChangeAnswer,
+    made: Result<(), Refusal>,
     copy: &[u8],
     length: usize,
 ) -> io::Result<()>
@@ -45,7 +46,7 @@ fn print_trial(
 {
     let mut tried = [0xA5u8; BUFFER_BYTES];
     let mut reported = tried;
-    print_number(out, b"\n  buffer of ", length as u64)?;
+    write!(out, "\n  buffer of {length}")?;
     let answer = trial(sheet, k, difference, &mut tried[0..length]);
     let wanted = report_changed(made, copy, &mut reported[0..length]);
     print_held(out, answer, wanted, &tried, &reported)
@@ -55,42 +56,28 @@ fn print_trial(
 // the wanted ones.
 fn print_held(
     out: &mut impl Write,
-    answer: BufferAnswer,
-    wanted: BufferAnswer,
+    answer: Result<usize, Refusal>,
+    wanted: Result<usize, Refusal>,
     tried: &[u8; BUFFER_BYTES],
     reported: &[u8; BUFFER_BYTES],
 ) -> io::Result<()> {
     match answer {
-        BufferAnswer::Written(bytes) => print_number(out, b" written ", bytes as u64)?,
-        BufferAnswer::Refused(refusal) => print_refused(out, refusal.number, refusal.place)?,
+        Ok(bytes) => write!(out, " written {bytes}")?,
+        Err(refusal) => print_refused(out, refusal.number(), refusal.place())?,
     }
-    print_number(out, b", checksum ", with_bytes(0, tried, 0xA5))?;
-    if same_answer(answer, wanted) && tried == reported {
-        return print(out, b", as reported");
+    let checksum = with_bytes(0, tried, 0xA5);
+    if answer == wanted && tried == reported {
+        return write!(out, ", checksum {checksum}, as reported");
     }
-    print(out, b", not as reported")
+    write!(out, ", checksum {checksum}, not as reported")
 }
 
 // What changing a copy and reporting on it answers: a refusal of the change, or what the reports come to.
-fn report_changed(made: ChangeAnswer, copy: &[u8], out: &mut [u8]) -> BufferAnswer {
-    match made {
-        ChangeAnswer::Changed => write_reports(copy, out),
-        ChangeAnswer::Refused(refusal) => BufferAnswer::Refused(refusal),
-    }
-}
-
-// Whether two answers are the same.
-fn same_answer(one: BufferAnswer, other: BufferAnswer) -> bool {
-    match one {
-        BufferAnswer::Written(bytes) => match other {
-            BufferAnswer::Written(count) => bytes == count,
-            BufferAnswer::Refused(_) => false,
-        },
-        BufferAnswer::Refused(refusal) => match other {
-            BufferAnswer::Written(_) => false,
-            BufferAnswer::Refused(second) => {
-                refusal.number == second.number && refusal.place == second.place
-            }
-        },
-    }
+fn report_changed(
+    made: Result<(), Refusal>,
+    copy: &[u8],
+    out: &mut [u8],
+) -> Result<usize, Refusal> {
+    made?;
+    write_reports(copy, out)
 }

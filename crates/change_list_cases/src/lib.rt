@@ -12,7 +12,6 @@ ghost use Rattle.std.specs.Prelude.{◌≤◌, length};
 
 use crate::replies::print_buffers;
 use case_text::parse::{Numeral, find, number, take_sheet, take_words};
-use case_text::print::print;
 use std::io;
 use std::io::Write;
 
@@ -24,10 +23,10 @@ const MOST_NUMBERS: usize = 640;
 // Answers one line: its name, and what it comes to.
 pub fn run_case(out: &mut impl Write, line: &[u8]) -> io::Result<()> {
     let colon = find(line, 0, b':');
-    print(out, &line[0..colon])?;
-    print(out, b":")?;
+    out.write_all(&line[0..colon])?;
+    write!(out, ":")?;
     take_case(out, line, colon)?;
-    print(out, b"\n")
+    writeln!(out)
 }
 
 // Answers a case whose name ends at the colon.

@@ -3,10 +3,11 @@
 ghost use Rattle.std.specs.Prelude.{◌≡◌, ◌≤◌, length};
 
 use crate::SHEET_BYTES;
+use answers::Refusal;
 use case_text::checksum::with_bytes;
-use case_text::print::{print, print_bytes, print_number, print_refused};
-use changing::{ChangeAnswer, change};
-use changing_all::{ChangesAnswer, change_all};
+use case_text::print::{print_bytes, print_refused};
+use changing::change;
+use changing_all::change_all;
 use sheet_cases::print::{print_answer, print_changes};
 use std::io;
 use std::io::Write;
@@ -31,7 +32,7 @@ pub fn print_buffers(
     requires { size ≤ 5120 }
 {
     if MOST_BYTES < room {
-        return print(out, b" too long");
+        return write!(out, " too long");
     }
     print_buffer(out, sheet, size, pairs, others, room)?;
     print_buffer(out, sheet, size, pairs, others, room + 1)?;
@@ -51,7 +52,7 @@ fn print_buffer(
 {
     let mut changed = sheet;
     let mut copy = sheet;
-    print_number(out, b"\n  buffer of ", room as u64)?;
+    write!(out, "\n  buffer of {room}")?;
     run_list(
         out,
         &mut changed[0..size],
@@ -77,7 +78,7 @@ fn run_list(
     let answer = change_all(sheet, pairs, &mut replies[0..room]);
     print_replied(out, answer, &replies)?;
     print_apart(out, pairs, copy, sheet)?;
-    if let ChangesAnswer::Replied(_) = answer {
+    if answer.is_ok() {
         print_held(out, sheet, &replies, others, copy)?;
     }
     Ok(())
@@ -87,25 +88,25 @@ fn run_list(
 // and behind it, 0 where it changed nothing.
 fn print_replied(
     out: &mut impl Write,
-    answer: ChangesAnswer,
+    answer: Result<usize, Refusal>,
     replies: &[u8; REPLY_BYTES],
 ) -> io::Result<()> {
     match answer {
-        ChangesAnswer::Replied(count) => {
-            print_number(out, b" replied ", count as u64)?;
+        Ok(count) => {
+            write!(out, " replied {count}")?;
             print_first(out, replies, count)?;
         }
-        ChangesAnswer::Refused(refusal) => print_refused(out, refusal.number, refusal.place)?,
+        Err(refusal) => print_refused(out, refusal.number(), refusal.place())?,
     }
-    print_number(out, b", checksum ", with_bytes(0, replies, 0xA5))
+    write!(out, ", checksum {}", with_bytes(0, replies, 0xA5))
 }
 
 // A buffer's first bytes.
 fn print_first(out: &mut impl Write, bytes: &[u8], count: usize) -> io::Result<()> {
     if count <= bytes.len() {
-        print(out, b" [")?;
+        write!(out, " [")?;
         print_bytes(out, &bytes[0..count])?;
-        print(out, b"]")?;
+        write!(out, "]")?;
     }
     Ok(())
 }
@@ -115,10 +116,10 @@ fn print_apart(out: &mut impl Write, pairs: &[u64], before: &[u8], after: &[u8])
     requires { length before.now ≡ length after.now }
 {
     if pairs.len() / 2 <= FEW_PAIRS {
-        print(out, b", bytes")?;
+        write!(out, ", bytes")?;
         return print_changes(out, before, after);
     }
-    print_number(out, b", sheet ", with_bytes(0, after, 0))
+    write!(out, ", sheet {}", with_bytes(0, after, 0))
 }
 
 // What reading says of the sheet, and whether sheet and replies are those of a copy with the changes of a list, made one by one.
@@ -133,9 +134,9 @@ fn print_held(
     let mut wanted = [0xA5u8; REPLY_BYTES];
     change_singly(copy, others, &mut wanted);
     if changed == &*copy && replies == &wanted {
-        return print(out, b", as one by one");
+        return write!(out, ", as one by one");
     }
-    print(out, b", not as one by one")
+    write!(out, ", not as one by one")
 }
 
 // Makes the changes of a list one by one, and notes a reply for each.
@@ -147,21 +148,16 @@ fn change_singly(sheet: &mut [u8], pairs: &[u64], replies: &mut [u8]) {
 }
 
 // Notes a reply, where there is room.
-fn put_reply(replies: &mut [u8], i: usize, made: ChangeAnswer) {
+fn put_reply(replies: &mut [u8], i: usize, made: Result<(), Refusal>) {
     if i < replies.len() {
         replies[i] = reply_of(made);
     }
 }
 
 // 0 for a change that was made, else the refusal's number, if it is a byte's.
-fn reply_of(made: ChangeAnswer) -> u8 {
+fn reply_of(made: Result<(), Refusal>) -> u8 {
     match made {
-        ChangeAnswer::Changed => 0,
-        ChangeAnswer::Refused(refusal) => {
-            if refusal.number < 256 {
-                return refusal.number as u8;
-            }
-            255
-        }
+        Ok(()) => 0,
+        Err(refusal) => u8::try_from(refusal.number()).unwrap_or(255),
     }
 }

@@ -2,7 +2,7 @@
 use Prim.Native.Nat.{ℕ, ◌+◌, ◌^◌, ◌<◌, ◌≤◌}
 use native.Mathlib.Omega.{arith}
 use mathlib.Core.Path.{◌≡◌, sym, ap, ap₂, subst, ◌∙◌}
-use mathlib.Core.Bool.{Bool, cond}
+use mathlib.Core.Bool.{cond}
 use mathlib.Core.List.{List}
 use lib.Dec.{eqb}
 use Rattle.trail.specs.declared.Line.{Line}
@@ -11,7 +11,7 @@ use Rattle.trail.specs.Changing.{stating, with_difference}
 use Rattle.trail.proofs.Changed.{difference_tested, line_tested}
 use Rattle.differential.specs.declared.Differential.{Differential}
 use Rattle.differential.specs.Demand2.{Proper}
-use Rattle.differential.specs.Report.{Report, report_of, report_means}
+use Rattle.differential.specs.Report.{Report}
 use Rattle.sheet.specs.Fields.{trail_of}
 use Rattle.sheet.specs.Facts.{SheetRead}
 use Rattle.sheet.specs.declared.Header.{Header}

@@ -8,14 +8,13 @@ ghost use Rattle.std.specs.Prelude.{◌≡◌, cond, ◌^◌, ◌<◌, ◌≤◌
 ghost use Rattle.buffers.specs.Overwrite.{Wrote};
 ghost use Rattle.trail.specs.Changing.{with_difference};
 ghost use Rattle.sheet.specs.Fields.{trail_of};
-ghost use Rattle.sheet.specs.Facts.{SheetRead};
 ghost use Rattle.trail_reports.specs.Lines.{differential_of};
 ghost use Rattle.report_buffer.specs.Buffer.{sheet_bytes, bytes_needed};
 
 use differential::Differential;
 use line_reports::report;
 use report_buffer::put_report;
-use sheet::Header;
+use sheet_fields::read_sheet::ReadSheet;
 use sheet_reports::differential_at;
 use trail::Line;
 
@@ -30,17 +29,12 @@ fn difference_of(word: usize, changed: usize, new: u64, old: u64) -> u64
 }
 
 // Line i's differential, with line k's stated difference replaced.
-fn changed_differential(
-    sheet: &[u8],
-    header: Header,
-    k: usize,
-    difference: u64,
-    i: usize,
-) -> Differential
-    requires { SheetRead sheet.now header × (k < header.lines) × (i < header.lines) }
-    ensures { result ≡ differential_of (with_difference (trail_of sheet.now) k difference) i }
+fn changed_differential(sheet: &ReadSheet, k: usize, difference: u64, i: usize) -> Differential
+    requires { (k < sheet.now.header.lines) × (i < sheet.now.header.lines) }
+    ensures { result ≡ differential_of (with_difference (trail_of sheet.now.bytes.now) k difference) i }
 {
-    let before = differential_at(sheet, header, i);
+    let header = sheet.header;
+    let before = differential_at(sheet, i);
     let line = before.line;
     let changed = header.inputs + k;
     let stated = difference_of(header.inputs + i, changed, difference, line.difference);
@@ -62,24 +56,15 @@ fn changed_differential(
 }
 
 // Writes the reports of all lines, with line k's stated difference replaced, one behind the other. Returns the next position.
-pub fn put_changed_reports(
-    sheet: &[u8],
-    header: Header,
-    k: usize,
-    difference: u64,
-    out: &mut [u8],
-) -> usize
-    requires { SheetRead sheet.now header × (k < header.lines) × (difference < 2 ^ header.width)
-        × (bytes_needed header.lines ≤ length out.old) }
-    ensures { Wrote 0 (sheet_bytes (with_difference (trail_of sheet.now) k difference)) out.old result out.new }
+pub fn put_changed_reports(sheet: &ReadSheet, k: usize, difference: u64, out: &mut [u8]) -> usize
+    requires { (k < sheet.now.header.lines) × (difference < 2 ^ sheet.now.header.width)
+        × (bytes_needed sheet.now.header.lines ≤ length out.old) }
+    ensures { Wrote 0 (sheet_bytes (with_difference (trail_of sheet.now.bytes.now) k difference)) out.old result out.new }
 {
-    let lines = header.lines;
     let mut next = 0;
-    let mut i = 0;
-    while i < lines {
-        let differential = changed_differential(sheet, header, k, difference, i);
+    for i in 0..sheet.header.lines {
+        let differential = changed_differential(sheet, k, difference, i);
         next = put_report(out, next, report(differential));
-        i += 1;
     }
     next
 }

@@ -4,20 +4,15 @@ use mathlib.Core.Path.{◌≡◌, sym, ap, subst, ◌∙◌}
 use mathlib.Core.Bool.{Bool, true, cond}
 use mathlib.Core.List.{List, [], append-nil}
 use borrow.Author.Tests.{ltb-true}
-use Rattle.sheet.specs.Asking.{Question, all_yes, verdict}
+use Rattle.sheet.specs.Asking.{Question, all_yes, Verdict, verdict}
 use Rattle.sheet.specs.Asking.Verdict.{accepted, refused}
 use Rattle.sheet.specs.Fields.{header_of}
 use Rattle.sheet.specs.Facts.{SheetRead}
 use Rattle.sheet.specs.Questions.{questions}
 use Rattle.sheet.specs.declared.Header.{Header}
 use Rattle.sheet.specs.declared.Mode.TheVariants.{Read}
-use Rattle.sheet.proofs.Asking.{yes_right, yes_first, yes_rest, verdict_yes, no_verdict, go_on}
-use Rattle.answers.specs.Answers.{reading_means, refusal_of}
-use Rattle.answers.specs.declared.Reading.{Reading}
-use Rattle.answers.specs.declared.Reading.TheVariants.{Accepted, Refused}
-use Rattle.answers.specs.declared.Refusal.{Refusal}
-use Rattle.answers.proofs.Answering.{asked}
-use Rattle.answers.proofs.Calling.{refused_by_stage}
+use Rattle.sheet.proofs.Asking.{yes_right, yes_first, yes_rest, yes_verdict, verdict_yes, no_verdict, go_on}
+use Rattle.answers.proofs.Calling.{refuses_too}
 use Rattle.changed_sheets.specs.ChangedSheet.{changed_sheet}
 use Rattle.changed_sheets.specs.ChangeCall.{change_questions, change_asks, change_call}
 
@@ -28,17 +23,17 @@ pub record Passed (s : List ℕ) (k d : ℕ) (h : Header) : Type 0 where
   pub word : d < 2 ^ h.width
   pub yes_to_all : all_yes (change_asks s k d) ≡ true
 
--- 17 and 14 were asked with the parts that reading gave
-module _ {s : List ℕ} {h : Header} (read : SheetRead s h) (k d : ℕ) (q : Reading) (asks : reading_means q ≡ verdict (change_questions h k d) h) where
-  pub all_asked : reading_means q ≡ verdict (change_asks s k d) (header_of s)
-  all_asked =
-      subst (λ (p : Header). reading_means q ≡ verdict (change_questions p k d) p) (sym read.parts) asks
+module _ {s : List ℕ} {h : Header} (read : SheetRead s h) (k d : ℕ) where
+  -- 17 and 14 are asked with the parts that reading gave
+  pub own_asked : {v : Verdict Header} → v ≡ verdict (change_questions h k d) h → v ≡ verdict (change_asks s k d) (header_of s)
+  own_asked {v} asks =
+      subst (λ (p : Header). v ≡ verdict (change_questions p k d) p) (sym read.parts) asks
       ∙ sym (go_on (questions Read s) (change_questions (header_of s) k d) (header_of s) read.accepted)
 
   -- with yes to all
-  pub all_passed : {g : Header} → q ≡ Accepted g → Passed s k d h
-  all_passed {g} e =
-      let all = (asked (change_asks s k d) (header_of s) q g all_asked e).0 in
+  pub all_passed : {g : Header} → accepted g ≡ verdict (change_questions h k d) h → Passed s k d h
+  all_passed {g} asks =
+      let all = (yes_verdict (change_asks s k d) (header_of s) g (sym (own_asked asks))).0 in
       let own = yes_right (questions Read s) (change_questions (header_of s) k d) all in
       record {
         read = read;
@@ -48,11 +43,11 @@ module _ {s : List ℕ} {h : Header} (read : SheetRead s h) (k d : ℕ) (q : Rea
       }
 
 -- refused, by whichever stage
-pub change_refused : (s : List ℕ) (k d : ℕ) {r : Reading} → reading_means r ≡ verdict (change_asks s k d) (header_of s) → {v w : Refusal}
-    → r ≡ Refused v → w ≡ refusal_of r → (refused w.number w.place ≡ (change_call s k d).answer) × (s ≡ (change_call s k d).buffer)
+pub change_refused : (s : List ℕ) (k d : ℕ) {n p : ℕ} → refused n p ≡ verdict (change_asks s k d) (header_of s)
+    → (refused n p ≡ (change_call s k d).answer) × (s ≡ (change_call s k d).buffer)
 unfolding change_call
-change_refused s k d {r} told {v} {w} e g =
-    let answer = refused_by_stage (change_asks s k d) [] (header_of s) {A = ℕ} 0 r v w told e g ∙ ap (λ (qs : List Question). verdict qs 0) (append-nil (change_asks s k d)) in
+change_refused s k d told =
+    let answer = refuses_too (change_asks s k d) [] (header_of s) 0 told ∙ ap (λ (qs : List Question). verdict qs 0) (append-nil (change_asks s k d)) in
     (answer, sym (ap (λ (t : Bool). cond t (changed_sheet s k d) s) (no_verdict (change_asks s k d) 0 (sym answer))))
 
 -- made

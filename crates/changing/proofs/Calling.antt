@@ -8,48 +8,37 @@ use lib.ListN.{length}
 use Rattle.sheet.specs.Asking.{verdict}
 use Rattle.sheet.specs.Asking.Verdict.{accepted, refused}
 use Rattle.sheet.specs.Fields.{header_of}
-use Rattle.sheet.specs.Facts.{SheetRead}
 use Rattle.sheet.specs.Questions.{questions}
 use Rattle.sheet.specs.declared.Header.{Header}
 use Rattle.sheet.specs.declared.Mode.TheVariants.{Read}
 use Rattle.sheet.proofs.Asking.{go_on, comes}
 use Rattle.sheet.proofs.Asking.Comes.{done, yes, no}
-use Rattle.answers.specs.Answers.{reading_means, refusal_of}
-use Rattle.answers.specs.declared.Reading.{Reading}
-use Rattle.answers.specs.declared.Reading.TheVariants.{Accepted, Refused}
+use Rattle.std.specs.Prelude.{Result, IsErrAnd}
+use Rattle.answers.specs.Answers.{number_of, place_of}
 use Rattle.answers.specs.declared.Refusal.{Refusal}
-use Rattle.answers.proofs.Answering.{hand_on}
-use Rattle.answers.proofs.Calling.{refused_by_stage, was_read}
-use Rattle.changed_sheets.specs.ChangeCall.{change_questions, change_asks}
-use Rattle.changed_sheets.proofs.Stage.{Passed, all_asked, all_passed}
+use Rattle.answers.proofs.Calling.{same_refusal, refuses_too}
+use Rattle.changed_sheets.specs.ChangeCall.{change_questions, change_asks, change_call}
+use Rattle.changed_sheets.proofs.Stage.{Passed, change_refused}
 use Rattle.report_buffer.specs.Buffer.{sheet_bytes}
 use Rattle.tried_changes.specs.TrialCall.{tried_trail, trial_asks}
 use Rattle.tried_changes.proofs.Answered.{trial_need}
+use Rattle.changing.specs.Answers.{change_means}
 
--- a trial refused, by whichever stage
-pub trial_refused : (s : List ℕ) (k d : ℕ) {r : Reading} → reading_means r ≡ verdict (change_asks s k d) (header_of s) → (out : List ℕ)
-    → {v w : Refusal} → r ≡ Refused v → w ≡ refusal_of r
-    → refused w.number w.place ≡ verdict (trial_asks s k d out) (length (sheet_bytes (tried_trail s k d)))
-trial_refused s k d {r} told out {v} {w} e g = refused_by_stage (change_asks s k d) _ (header_of s) _ r v w told e g
+module _ (s : List ℕ) (k d : ℕ) where
+  -- what reading refused, and
+  pub unread : {n p : ℕ} → refused n p ≡ verdict (questions Read s) (header_of s) → refused n p ≡ verdict (change_asks s k d) (header_of s)
+  unread told = refuses_too (questions Read s) (change_questions (header_of s) k d) (header_of s) (header_of s) told
 
--- ---- what the stages have asked
+  -- what a trial is refused for, by whichever stage
+  pub trial_refused : (out : List ℕ) {n p : ℕ} → refused n p ≡ verdict (change_asks s k d) (header_of s)
+      → refused n p ≡ verdict (trial_asks s k d out) (length (sheet_bytes (tried_trail s k d)))
+  trial_refused out told = refuses_too (change_asks s k d) _ (header_of s) _ told
 
-module _ (s : List ℕ) (k d : ℕ) {r : Reading} (reading : reading_means r ≡ verdict (questions Read s) (header_of s)) where
-  -- reading refused
-  pub unread : {v : Refusal} → r ≡ Refused v → reading_means r ≡ verdict (change_asks s k d) (header_of s)
-  unread {v} e = hand_on (questions Read s) (change_questions (header_of s) k d) (header_of s) (header_of s) r v reading e
-
-  -- it accepted, and 17 and 14 were asked with the parts that it gave
-  module _ {h : Header} (accepts : r ≡ Accepted h) (q : Reading) (asks : reading_means q ≡ verdict (change_questions h k d) h) where
-    abbrev read : SheetRead s h
-    read = was_read s r reading h accepts
-
-    pub both_asked : reading_means q ≡ verdict (change_asks s k d) (header_of s)
-    both_asked = all_asked read k d q asks
-
-    -- with yes to all
-    pub passed : {g : Header} → q ≡ Accepted g → Passed s k d h
-    passed e = all_passed read k d q asks e
+  -- a change refused, and the refusal handed on
+  pub change_kept : (x : Result (Unit {0}) Refusal) (e : Refusal) → IsErrAnd x (λ w. w ≡ e)
+      → refused (number_of e) (place_of e) ≡ verdict (change_asks s k d) (header_of s)
+      → (change_means x ≡ (change_call s k d).answer) × (s ≡ (change_call s k d).buffer)
+  change_kept x e is told = let k = change_refused s k d told in (same_refusal (λ _. 0) x e is ∙ k.0, k.1)
 
 -- ---- the room for a trial
 

@@ -4,61 +4,44 @@
 #![tactic(auto)]
 
 ghost use Rattle.std.specs.Prelude.{◌≡◌};
+ghost use Rattle.answers.specs.Answers.{count_means};
 ghost use Rattle.changed_sheets.specs.ChangeCall.{change_call};
-ghost use Rattle.report.specs.Answers.{buffer_means};
 ghost use Rattle.tried_changes.specs.TrialCall.{trial_call};
 ghost use Rattle.changing.specs.Answers.{change_means};
 
-use answers::{Reading, Refusal, refusal_of};
+use answers::Refusal;
 use changed_reports::put_changed_reports;
 use reading::read;
-use report::BufferAnswer;
 use report_buffer::REPORT_BYTES;
 use sheet_changes::{change_difference, change_stage};
-
-// That the change was made, or the refusal.
-#[derive(Clone, Copy)]
-pub enum ChangeAnswer {
-    Changed,
-    Refused(Refusal),
-}
+use sheet_fields::read_sheet::ReadSheet;
 
 // Replaces line k's stated difference, and renews the check of the line's block. A refusal changes no byte.
-pub fn change(sheet: &mut [u8], k: usize, difference: u64) -> ChangeAnswer
+pub fn change(sheet: &mut [u8], k: usize, difference: u64) -> Result<(), Refusal>
     ensures { (change_means result ≡ (change_call sheet.old k difference).answer)
         × (sheet.new ≡ (change_call sheet.old k difference).buffer) }
 {
-    let reading = read(sheet);
-    let Reading::Accepted(header) = reading else {
-        return ChangeAnswer::Refused(refusal_of(reading));
-    };
-    let asked = change_stage(header, k, difference);
-    let Reading::Accepted(_) = asked else {
-        return ChangeAnswer::Refused(refusal_of(asked));
-    };
+    let header = read(sheet)?;
+    change_stage(header, k, difference)?;
     change_difference(sheet, header, k, difference);
-    ChangeAnswer::Changed
+    Ok(())
 }
 
 // Writes the report that the sheet would have, were line k's stated difference another. The sheet is left whole.
-pub fn trial(sheet: &[u8], k: usize, difference: u64, out: &mut [u8]) -> BufferAnswer
-    ensures { (buffer_means result ≡ (trial_call sheet.now k difference out.old).answer)
+// Returns how many bytes that is.
+pub fn trial(sheet: &[u8], k: usize, difference: u64, out: &mut [u8]) -> Result<usize, Refusal>
+    ensures { (count_means result ≡ (trial_call sheet.now k difference out.old).answer)
         × (out.new ≡ (trial_call sheet.now k difference out.old).buffer) }
 {
-    let reading = read(sheet);
-    let Reading::Accepted(header) = reading else {
-        return BufferAnswer::Refused(refusal_of(reading));
-    };
-    let answered = change_stage(header, k, difference);
-    let Reading::Accepted(_) = answered else {
-        return BufferAnswer::Refused(refusal_of(answered));
-    };
-    let need = REPORT_BYTES * header.lines;
+    let parts = read(sheet)?;
+    change_stage(parts, k, difference)?;
+    let need = REPORT_BYTES * parts.lines;
     if out.len() < need {
-        return BufferAnswer::Refused(Refusal {
-            number: 18,
-            place: 0,
-        });
+        return Err(Refusal::Room);
     }
-    BufferAnswer::Written(put_changed_reports(sheet, header, k, difference, out))
+    let sheet = ReadSheet {
+        bytes: sheet,
+        header: parts,
+    };
+    Ok(put_changed_reports(&sheet, k, difference, out))
 }

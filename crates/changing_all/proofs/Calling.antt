@@ -12,12 +12,11 @@ use Rattle.sheet.specs.Questions.{questions}
 use Rattle.sheet.specs.Facts.{SheetRead}
 use Rattle.sheet.specs.declared.Header.{Header}
 use Rattle.sheet.specs.declared.Mode.TheVariants.{Read}
-use Rattle.answers.specs.Answers.{reading_means, refusal_of}
-use Rattle.answers.specs.declared.Reading.{Reading}
-use Rattle.answers.specs.declared.Reading.TheVariants.{Refused}
+use Rattle.std.specs.Prelude.{Result, IsErrAnd}
+use Rattle.answers.specs.Answers.{number_of, place_of}
 use Rattle.answers.specs.declared.Refusal.{Refusal}
 use Rattle.answers.specs.Calls.{writing}
-use Rattle.answers.proofs.Calling.{written}
+use Rattle.answers.proofs.Calling.{same_refusal, written}
 use Rattle.change_lists.specs.Pairs.{pairs_of}
 use Rattle.change_lists.specs.Applied.{sheet_after, replies_to}
 use Rattle.change_lists.specs.ChangesCall.{changes_asks, changes_call, changes_sheet}
@@ -25,6 +24,7 @@ use Rattle.change_lists.specs.Answered.{ChangesAnswered}
 use Rattle.change_lists.proofs.Pairs.{pairs_count}
 use Rattle.change_lists.proofs.Lists.{replies_count}
 use Rattle.change_lists.proofs.Answered.{changes_answer_in_order}
+use Rattle.changing_all.specs.Answers.{changes_means}
 
 module _ (s numbers out : List ℕ) where
   -- the answer is v, the reply buffer afterwards m, and the sheet t
@@ -37,10 +37,11 @@ module _ (s numbers out : List ℕ) where
   refusing : {n p : ℕ} → (changes_call s numbers out).answer ≡ refused n p → Ends (refused n p) out s
   refusing {n} {p} e = let left = answers.kept n p e in (sym e, sym left.unwritten, sym left.unapplied)
 
-  pub unread : {r : Reading} {v w : Refusal} → reading_means r ≡ verdict (questions Read s) (header_of s) → r ≡ Refused v → w ≡ refusal_of r
-      → Ends (refused w.number w.place) out s
-  unread {r} {v} {w} told e g =
-      refusing (answers.by_reading _ _ (sym told ∙ ap reading_means e ∙ sym (ap (λ (x : Refusal). refused x.number x.place) (g ∙ ap refusal_of e))))
+  pub unread : (x : Result ℕ Refusal) (e : Refusal) → IsErrAnd x (λ w. w ≡ e)
+      → refused (number_of e) (place_of e) ≡ verdict (questions Read s) (header_of s) → Ends (changes_means x) out s
+  unread x e is told =
+      let left = refusing (answers.by_reading _ _ (sym told)) in
+      (same_refusal (λ n. n) x e is ∙ left.0, left.1, left.2)
 
   module _ {h : Header} (read : SheetRead s h) where
     pub too_many : 64 < length numbers / 2 → Ends (refused 24 0) out s

@@ -9,20 +9,13 @@ ghost use Rattle.changed_sheets.specs.ChangeCall.{change_call};
 ghost use Rattle.tried_changes.specs.TrialCall.{trial_call};
 
 use answers::Answer;
-use changing::ChangeAnswer;
-use changing_all::ChangesAnswer;
-use report::BufferAnswer;
 
 // Changes one stated difference. Counts nothing.
 pub fn change(sheet: &mut [u8], line: u64, difference: u64) -> Answer
     ensures { (result ≡ answer_of (change_call sheet.old line difference).answer)
         × (sheet.new ≡ (change_call sheet.old line difference).buffer) }
 {
-    let answer = changing::change(sheet, line as usize, difference);
-    match answer {
-        ChangeAnswer::Changed => Answer::counted(0),
-        ChangeAnswer::Refused(refusal) => Answer::refusing(refusal),
-    }
+    Answer::of(changing::change(sheet, line as usize, difference).map(|()| 0))
 }
 
 // Makes a list of changes. Counts the pairs.
@@ -31,11 +24,7 @@ pub fn change_all(sheet: &mut [u8], pairs: &[u64], replies: &mut [u8]) -> Answer
         × (replies.new ≡ (changes_call sheet.old pairs.now replies.old).buffer)
         × (sheet.new ≡ changes_sheet sheet.old pairs.now replies.old) }
 {
-    let answer = changing_all::change_all(sheet, pairs, replies);
-    match answer {
-        ChangesAnswer::Replied(count) => Answer::counted(count),
-        ChangesAnswer::Refused(refusal) => Answer::refusing(refusal),
-    }
+    Answer::of(changing_all::change_all(sheet, pairs, replies))
 }
 
 // Writes the report that the sheet would have. Counts bytes.
@@ -43,9 +32,5 @@ pub fn trial(sheet: &[u8], line: u64, difference: u64, out: &mut [u8]) -> Answer
     ensures { (result ≡ answer_of (trial_call sheet.now line difference out.old).answer)
         × (out.new ≡ (trial_call sheet.now line difference out.old).buffer) }
 {
-    let answer = changing::trial(sheet, line as usize, difference, out);
-    match answer {
-        BufferAnswer::Written(bytes) => Answer::counted(bytes),
-        BufferAnswer::Refused(refusal) => Answer::refusing(refusal),
-    }
+    Answer::of(changing::trial(sheet, line as usize, difference, out))
 }

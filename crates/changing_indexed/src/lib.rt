@@ -7,12 +7,12 @@ ghost use Rattle.std.specs.Prelude.{◌≡◌};
 ghost use Rattle.changing.specs.Answers.{change_means};
 ghost use Rattle.indexed_changes.specs.IndexedCall.{indexed_call, indexed_sheet};
 
-use answers::{Reading, Refusal, refusal_of};
-use changing::ChangeAnswer;
+use answers::Refusal;
 use lent_questions::are_own;
 use reading::read;
 use renewed_reports::renew_reports;
 use sheet_changes::{change_difference, change_stage};
+use sheet_fields::read_sheet::ReadSheet;
 
 // Replaces line k's stated difference, renews the check of the line's block, and renews the report at the lines that the index names.
 // Index and report must be the sheet's own. A refusal changes no byte.
@@ -22,26 +22,25 @@ pub fn change_indexed(
     report: &mut [u8],
     k: usize,
     difference: u64,
-) -> ChangeAnswer
+) -> Result<(), Refusal>
     ensures { (change_means result ≡ (indexed_call sheet.old index.now report.old k difference).answer)
         × (report.new ≡ (indexed_call sheet.old index.now report.old k difference).buffer)
         × (sheet.new ≡ indexed_sheet sheet.old index.now report.old k difference) }
 {
-    let reading = read(sheet);
-    let Reading::Accepted(header) = reading else {
-        return ChangeAnswer::Refused(refusal_of(reading));
+    let header = read(sheet)?;
+    let lent = ReadSheet {
+        bytes: sheet,
+        header,
     };
-    if !are_own(sheet, header, index, report) {
-        return ChangeAnswer::Refused(Refusal {
-            number: 26,
-            place: 0,
-        });
+    if !are_own(&lent, index, report) {
+        return Err(Refusal::NotOwn);
     }
-    let asked = change_stage(header, k, difference);
-    let Reading::Accepted(_) = asked else {
-        return ChangeAnswer::Refused(refusal_of(asked));
-    };
+    change_stage(header, k, difference)?;
     change_difference(sheet, header, k, difference);
-    renew_reports(sheet, header, index, k, report);
-    ChangeAnswer::Changed
+    let changed = ReadSheet {
+        bytes: sheet,
+        header,
+    };
+    renew_reports(&changed, index, k, report);
+    Ok(())
 }

@@ -2,11 +2,11 @@
 use Prim.Native.Nat.{ℕ, ◌+◌, ◌*◌, ◌≤◌, ◌<◌}
 use native.Mathlib.Omega.{arith}
 use mathlib.Core.Path.{◌≡◌, refl, sym, ap, subst, ◌∙◌}
-use mathlib.Core.Bool.{Bool, true, false, not, cond, true≢false, false≢true}
+use mathlib.Core.Bool.{Bool, true, false, not, false≢true}
 use mathlib.Core.List.{List}
 use borrow.Author.Tests.{eqb-true, eqb-false}
 use lib.Dec.{eqb}
-use lib.ListN.{length, get_or, set, length-set}
+use lib.ListN.{length, get_or, set}
 use lib.Seq.{get_or-set_same, get_or-set_other}
 use Rattle.words.proofs.Below.{below_suc, any_none, any_found, any_witness}
 use Rattle.buffers.specs.Overwrite.{overwrite}
@@ -14,15 +14,6 @@ use Rattle.trail.specs.declared.Line.{Line}
 use Rattle.listed_lines.specs.Listed.{line_numbers, numbers_of, stands_at, is_listed}
 use Rattle.charged_lines.specs.Charged.{marks_count, mark_of, is_marked, Marked}
 use Rattle.listed_lines.proofs.Listed.{stands_one, stands_written, stands_before}
-
--- a line whose mark is not set is not in the list
-pub unlisted : {s : List ℕ} {count : ℕ} {marks : List ℕ} → Marked s count marks → (l : Line) → is_marked marks l ≡ false
-    → is_listed s count l ≡ false
-unlisted {s} {count} m l e = at (is_listed s count l) refl
-  where
-    at : (listed : Bool) → is_listed s count l ≡ listed → listed ≡ false
-    at true f = absurd (true≢false (sym (m.marked l f) ∙ e))
-    at false f = refl
 
 -- no line is in the list, so none has to be marked
 pub marked_none : (s marks : List ℕ) → Marked s 0 marks
@@ -50,7 +41,7 @@ module _ (marks : List ℕ) (room : length marks ≡ marks_count) (l : Line) whe
 -- A line is written behind the others and its mark is set: then each line of the list is that one, or was in it.
 module _ {s : List ℕ} {count : ℕ} {marks : List ℕ} (m : Marked s count marks) (l : Line) (room : line_numbers * count + line_numbers ≤ length s)
     (marks-room : length marks ≡ marks_count) where
-  marked_written : Marked (overwrite (line_numbers * count) (numbers_of l) s) (count + 1) (set marks (mark_of l) 1)
+  pub marked_written : Marked (overwrite (line_numbers * count) (numbers_of l) s) (count + 1) (set marks (mark_of l) 1)
   unfolding is_listed
   marked_written = record {
     marked = λ q e.
@@ -70,10 +61,3 @@ module _ {s : List ℕ} {count : ℕ} {marks : List ℕ} (m : Marked s count mar
       new q e =
           let same = stands_one then (line_numbers * count) l q (stands_written s (line_numbers * count) l room) e in
           subst (λ (z : Line). is_marked (set marks (mark_of l) 1) z ≡ true) same (mark_set marks marks-room l)
-
-  -- as the code does it, if the line costs something
-  pub marked_charge : (dear : Bool) {then after : List ℕ} {more : ℕ} → more ≡ cond dear (count + 1) count
-      → then ≡ cond dear (overwrite (line_numbers * count) (numbers_of l) s) s → after ≡ cond dear (set marks (mark_of l) 1) marks
-      → Marked then more after × (length after ≡ marks_count)
-  marked_charge true more then after = (rw (more, then, after) marked_written, ap length after ∙ length-set marks (mark_of l) 1 ∙ marks-room)
-  marked_charge false more then after = (rw (more, then, after) m, ap length after ∙ marks-room)

@@ -5,11 +5,11 @@
 
 ghost use Rattle.std.specs.Prelude.{◌≡◌, ◌&&◌, cond, ◌+◌, ◌*◌, ◌≤◌, ◌<◌, length, set};
 ghost use Rattle.buffers.specs.Overwrite.{overwrite};
+ghost use Rattle.trail.specs.WellFormed.{most_lines};
 ghost use Rattle.differential.specs.Report.{report_means};
 ghost use Rattle.listed_lines.specs.Listed.{line_numbers, numbers_of, is_listed};
 ghost use Rattle.charged_lines.specs.Charged.{marks_count, mark_of, is_marked, Marked, costs as Charged·costs};
 
-use buffers::put_all;
 use differential::LineReport;
 use listed_lines::{LINE_NUMBERS, is_listed, numbers_of};
 use trail::Line;
@@ -20,44 +20,54 @@ pub const CHARGED_NUMBERS: usize = 1736;
 // The marks: some sixteen to a line of the longest sheet, so that two lines seldom share one.
 pub const MARKS: usize = 4096;
 
-// Whether a line costs something and an equal one is charged. One that costs nothing is not looked for, and the list is searched only
-// where the line's mark is set.
-pub fn is_charged(
-    charged: &[u64],
-    count: usize,
-    marks: &[u8; MARKS],
-    line: Line,
-    report: LineReport,
-) -> bool
-    requires { (line_numbers * count ≤ length charged.now) × Marked charged.now count marks.now }
-    ensures { result ≡ (Charged·costs (report_means report) && is_listed charged.now count line) }
-{
-    costs(report) && is_marked(marks, line) && is_listed(charged, count, line)
+// The charged lines: their numbers in a list, how many lines they are, and the marks, by which each of them is marked.
+#[derive(Drop)]
+pub struct ChargedLines {
+    pub numbers: [u64; CHARGED_NUMBERS],
+    pub count: usize,
+    pub marks: [u8; MARKS],
+    pub ghost room: { length numbers ≡ line_numbers * most_lines },
+    pub ghost within: { count ≤ most_lines },
+    pub ghost marked: { Marked numbers count marks },
 }
 
-// Writes a line that costs something behind the first `count` of the list, and sets its mark. Returns how many there are then.
-pub fn charge(
-    charged: &mut [u64],
-    count: usize,
-    marks: &mut [u8; MARKS],
-    line: Line,
-    report: LineReport,
-) -> usize
-    requires { line_numbers * count + line_numbers ≤ length charged.old }
-    ensures { (result ≡ cond (Charged·costs (report_means report)) (count + 1) count)
-        × (charged.new ≡ cond (Charged·costs (report_means report))
-        (overwrite (line_numbers * count) (numbers_of line) charged.old) charged.old)
-        × (marks.new ≡ cond (Charged·costs (report_means report)) (set marks.old (mark_of line) 1) marks.old) }
-{
-    if costs(report) {
-        let numbers = numbers_of(line);
-        let at = LINE_NUMBERS * count;
-        put_all(&mut charged[at..at + LINE_NUMBERS], &numbers);
-        let mark = mark_of(line);
-        marks[mark] = 1;
-        return count + 1;
+impl ChargedLines {
+    // None is charged yet.
+    pub fn new() -> Self
+        ensures { result.count ≡ 0 }
+    {
+        ChargedLines {
+            numbers: [0; CHARGED_NUMBERS],
+            count: 0,
+            marks: [0; MARKS],
+        }
     }
-    count
+
+    // Whether a line costs something and an equal one is charged. One that costs nothing is not looked for, and the list is searched
+    // only where the line's mark is set.
+    pub fn holds(&self, line: Line, report: LineReport) -> bool
+        ensures { result ≡ (Charged·costs (report_means report) && is_listed self.now.numbers self.now.count line) }
+    {
+        costs(report) && is_marked(&self.marks, line) && is_listed(&self.numbers, self.count, line)
+    }
+
+    // Writes a line that costs something behind the others, and sets its mark.
+    pub fn charge(&mut self, line: Line, report: LineReport)
+        requires { self.old.count < most_lines }
+        ensures { (self.new.count ≡ cond (Charged·costs (report_means report)) (self.old.count + 1) self.old.count)
+            × (self.new.numbers ≡ cond (Charged·costs (report_means report))
+            (overwrite (line_numbers * self.old.count) (numbers_of line) self.old.numbers) self.old.numbers)
+            × (self.new.marks ≡ cond (Charged·costs (report_means report)) (set self.old.marks (mark_of line) 1) self.old.marks) }
+    {
+        if costs(report) {
+            let numbers = numbers_of(line);
+            let at = LINE_NUMBERS * self.count;
+            self.numbers[at..at + LINE_NUMBERS].copy_from_slice(&numbers);
+            let mark = mark_of(line);
+            self.marks[mark] = 1;
+            self.count += 1;
+        }
+    }
 }
 
 // Whether a report may have weight or chains.

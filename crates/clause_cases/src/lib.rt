@@ -22,7 +22,6 @@ use crate::pairs::run_pairs;
 use crate::starts::run_start;
 use crate::whole::run_whole;
 use case_text::parse::find;
-use case_text::print::print;
 use std::io;
 use std::io::Write;
 
@@ -32,10 +31,10 @@ const SHEET_BYTES: usize = 5120;
 // Answers one line: its name, and what it comes to.
 pub fn run_case(out: &mut impl Write, line: &[u8]) -> io::Result<()> {
     let colon = find(line, 0, b':');
-    print(out, &line[0..colon])?;
-    print(out, b":")?;
+    out.write_all(&line[0..colon])?;
+    write!(out, ":")?;
     answer(out, line, colon + 2)?;
-    print(out, b"\n")
+    writeln!(out)
 }
 
 // What stands after a case's name. Its numbers start at `from`.

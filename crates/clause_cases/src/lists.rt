@@ -2,10 +2,9 @@
 ghost use Rattle.std.specs.Prelude.{◌≤◌};
 
 use crate::SHEET_BYTES;
-use crate::print::print_numbers;
 use case_text::parse::{number, take_sheet};
-use case_text::print::{print, print_number, print_refused};
-use clauses::{ListAnswer, line_list};
+use case_text::print::{print_numbers, print_refused};
+use clauses::line_list;
 use std::io;
 use std::io::Write;
 
@@ -38,13 +37,13 @@ fn need_of(sheet: &[u8], k: usize) -> usize
 {
     let mut buffer = [0i32; MOST_NUMBERS];
     match line_list(sheet, k, &mut buffer) {
-        ListAnswer::Written(numbers) => {
+        Ok(numbers) => {
             if MOST_NUMBERS < numbers {
                 return MOST_NUMBERS;
             }
             numbers
         }
-        ListAnswer::Refused(_) => 0,
+        Err(_) => 0,
     }
 }
 
@@ -53,16 +52,16 @@ fn print_buffer(out: &mut impl Write, sheet: &[u8], k: usize, length: usize) -> 
     requires { length ≤ 1027 }
 {
     let mut buffer = [7i32; BUFFER_NUMBERS];
-    print_number(out, b"\n  buffer of ", length as u64)?;
+    write!(out, "\n  buffer of {length}")?;
     print_list(out, sheet, k, &mut buffer[0..length])
 }
 
 // The answer of `clauses::line_list`, ` written NUMBERS` or a refusal, and the numbers of the buffer afterwards.
 fn print_list(out: &mut impl Write, sheet: &[u8], k: usize, buffer: &mut [i32]) -> io::Result<()> {
     match line_list(sheet, k, buffer) {
-        ListAnswer::Written(numbers) => print_number(out, b" written ", numbers as u64)?,
-        ListAnswer::Refused(refusal) => print_refused(out, refusal.number, refusal.place)?,
+        Ok(numbers) => write!(out, " written {numbers}")?,
+        Err(refusal) => print_refused(out, refusal.number(), refusal.place())?,
     }
-    print(out, b":")?;
+    write!(out, ":")?;
     print_numbers(out, buffer)
 }

@@ -3,10 +3,9 @@ use crate::SHEET_BYTES;
 use crate::following::print_following;
 use crate::print::print_counts;
 use crate::satisfying::count_satisfying;
-use answers::Reading;
 use case_text::parse::take_sheet;
-use case_text::print::{print, print_number, print_refused};
-use clauses::{CountsAnswer, clause_counts};
+use case_text::print::print_refused;
+use clauses::clause_counts;
 use std::io;
 use std::io::Write;
 
@@ -20,23 +19,23 @@ pub fn run_pairs(out: &mut impl Write, line: &[u8], from: usize) -> io::Result<(
 // Both counts of a sheet, then the pairs.
 fn print_pairs(out: &mut impl Write, sheet: &[u8]) -> io::Result<()> {
     match clause_counts(sheet) {
-        CountsAnswer::Given(counts) => {
+        Ok(counts) => {
             print_counts(out, counts)?;
             print_small(out, sheet, counts.variables)
         }
-        CountsAnswer::Refused(refusal) => print_refused(out, refusal.number, refusal.place),
+        Err(refusal) => print_refused(out, refusal.number(), refusal.place()),
     }
 }
 
 // The pairs of a sheet with so many variables, where there are few enough to count.
 fn print_small(out: &mut impl Write, sheet: &[u8], variables: u32) -> io::Result<()> {
-    let Reading::Accepted(header) = reading::read(sheet) else {
+    let Ok(header) = reading::read(sheet) else {
         return Ok(());
     };
     if 20 < variables {
-        return print(out, b", not counted");
+        return write!(out, ", not counted");
     }
     let satisfying = count_satisfying(sheet, header.lines, variables);
-    print_number(out, b", satisfying ", satisfying)?;
+    write!(out, ", satisfying {satisfying}")?;
     print_following(out, sheet)
 }

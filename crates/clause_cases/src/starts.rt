@@ -1,8 +1,9 @@
 // Two runs from given words.
 use crate::SHEET_BYTES;
+use answers::Refusal;
 use case_text::parse::{number, take_sheet, take_words};
-use case_text::print::{print, print_number, print_refused};
-use runs::{RunsAnswer, two_runs};
+use case_text::print::print_refused;
+use runs::two_runs;
 use sheet_runs::RunsOutcome;
 use std::io;
 use std::io::Write;
@@ -15,7 +16,7 @@ pub fn run_start(out: &mut impl Write, line: &[u8], from: usize) -> io::Result<(
     let size = number(line, from);
     let count = size.value;
     if MOST_WORDS < count {
-        return print(out, b" too many");
+        return write!(out, " too many");
     }
     let mut words = [0u64; MOST_WORDS];
     print_start(out, line, size.next, &mut words[0..count])
@@ -35,20 +36,17 @@ fn print_start(
 }
 
 // The answer of `runs::two_runs`: ` follows`, ` disagree LINE BIT`, or a refusal.
-fn print_runs(out: &mut impl Write, answer: RunsAnswer) -> io::Result<()> {
+fn print_runs(out: &mut impl Write, answer: Result<RunsOutcome, Refusal>) -> io::Result<()> {
     match answer {
-        RunsAnswer::Given(outcome) => print_outcome(out, outcome),
-        RunsAnswer::Refused(refusal) => print_refused(out, refusal.number, refusal.place),
+        Ok(outcome) => print_outcome(out, outcome),
+        Err(refusal) => print_refused(out, refusal.number(), refusal.place()),
     }
 }
 
 // What two runs come to.
 fn print_outcome(out: &mut impl Write, outcome: RunsOutcome) -> io::Result<()> {
     match outcome {
-        RunsOutcome::Follows => print(out, b" follows"),
-        RunsOutcome::Disagree(line, bit) => {
-            print_number(out, b" disagree ", line as u64)?;
-            print_number(out, b" ", bit as u64)
-        }
+        RunsOutcome::Follows => write!(out, " follows"),
+        RunsOutcome::Disagree(line, bit) => write!(out, " disagree {line} {bit}"),
     }
 }

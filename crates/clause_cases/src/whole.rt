@@ -3,8 +3,8 @@ use crate::SHEET_BYTES;
 use crate::print::print_counts;
 use case_text::checksum::with_number;
 use case_text::parse::take_sheet;
-use case_text::print::{print_number, print_refused};
-use clauses::{CountsAnswer, ListAnswer, clause_counts, line_list};
+use case_text::print::print_refused;
+use clauses::{clause_counts, line_list};
 use literal_text::magnitude;
 use std::io;
 use std::io::Write;
@@ -32,13 +32,16 @@ pub fn run_whole(out: &mut impl Write, line: &[u8], from: usize) -> io::Result<(
 // Both counts of a sheet, and what its lists come to.
 fn print_whole(out: &mut impl Write, sheet: &[u8]) -> io::Result<()> {
     match clause_counts(sheet) {
-        CountsAnswer::Given(counts) => {
+        Ok(counts) => {
             print_counts(out, counts)?;
             let fold = fold_lists(sheet);
-            print_number(out, b", numbers ", fold.numbers)?;
-            print_number(out, b", checksum ", fold.checksum)
+            write!(
+                out,
+                ", numbers {}, checksum {}",
+                fold.numbers, fold.checksum
+            )
         }
-        CountsAnswer::Refused(refusal) => print_refused(out, refusal.number, refusal.place),
+        Err(refusal) => print_refused(out, refusal.number(), refusal.place()),
     }
 }
 
@@ -49,11 +52,8 @@ fn fold_lists(sheet: &[u8]) -> Fold {
         numbers: 0,
         checksum: 0,
     };
-    let mut k = 0;
-    while k < MOST_LINES {
-        let next = with_list(fold, sheet, k, &mut buffer);
-        fold = next;
-        k += 1;
+    for k in 0..MOST_LINES {
+        fold = with_list(fold, sheet, k, &mut buffer);
     }
     fold
 }
@@ -61,13 +61,13 @@ fn fold_lists(sheet: &[u8]) -> Fold {
 // The list of line k more; none where there is no list.
 fn with_list(fold: Fold, sheet: &[u8], k: usize, buffer: &mut [i32]) -> Fold {
     match line_list(sheet, k, buffer) {
-        ListAnswer::Written(numbers) => {
+        Ok(numbers) => {
             if buffer.len() < numbers {
                 return fold;
             }
             with_numbers(fold, &buffer[0..numbers])
         }
-        ListAnswer::Refused(_) => fold,
+        Err(_) => fold,
     }
 }
 

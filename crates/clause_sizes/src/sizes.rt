@@ -4,11 +4,10 @@ ghost use Rattle.trail.specs.WellFormed.{WellFormedLine};
 ghost use Rattle.clause_lists.specs.Lists.{line_list};
 ghost use Rattle.clause_lists.specs.Sizes.{filled_bits, gate_counts, size_of, clauses_of_gate, numbers_of_gate};
 ghost use Rattle.sheet.specs.Fields.{trail_of};
-ghost use Rattle.sheet.specs.Facts.{SheetRead};
 
 use run_literals::kinds::{has_carries, uses_second};
-use sheet::Header;
 use sheet_fields::lines::line_at;
+use sheet_fields::read_sheet::ReadSheet;
 use trail::Line;
 
 // The clauses of a list, and its numbers: literals and zeros.
@@ -19,12 +18,12 @@ pub struct ListSize {
 }
 
 // How many numbers the list of line k has.
-pub fn list_numbers(sheet: &[u8], header: Header, k: usize) -> usize
-    requires { SheetRead sheet.now header × (k < header.lines) }
-    ensures { result ≡ length (line_list (trail_of sheet.now) k) }
+pub fn list_numbers(sheet: &ReadSheet, k: usize) -> usize
+    requires { k < sheet.now.header.lines }
+    ensures { result ≡ length (line_list (trail_of sheet.now.bytes.now) k) }
 {
-    let line = line_at(sheet, header, k);
-    let size = list_size(line, header.width);
+    let line = line_at(sheet, k);
+    let size = list_size(line, sheet.header.width);
     size.numbers
 }
 

@@ -2,7 +2,7 @@
 ghost use Rattle.std.specs.Prelude.{◌+◌, ◌<◌, ◌≤◌, length};
 ghost use Rattle.buffers.specs.Overwrite.{Wrote};
 ghost use Rattle.cnf.specs.Formulas.{numbers};
-ghost use Rattle.run_literals.specs.Run.{ProperRun, CanNegate};
+ghost use Rattle.run_literals.specs.Run.{CanNegate};
 ghost use Rattle.bit_gates.specs.Gates.{gathered, Gathers};
 ghost use Rattle.clause_writer.specs.Writing.{clauses_of_bit, tied_by};
 
@@ -13,18 +13,16 @@ use run_literals::LineRun;
 
 // Writes the clauses of bit i from a position on, those of one output after the other. Returns the next position.
 pub(crate) fn put_bit(out: &mut [i32], at: usize, run: LineRun, i: u32) -> usize
-    requires { ProperRun run × (i < run.width) × (at + length (numbers (clauses_of_bit run i)) ≤ length out.old) }
+    requires { (i < run.width) × (at + length (numbers (clauses_of_bit run i)) ≤ length out.old) }
     ensures { Wrote at (numbers (clauses_of_bit run i)) out.old result out.new }
 {
     let inputs = gather(run, i);
     let outputs = output_count(run, i);
     let mut next = at;
-    let mut j = 0u32;
-    while j < outputs {
+    for j in 0..outputs {
         let output = output_literal(run, i, j);
         let table = output_table(run, i, j);
         next = put_output(out, next, inputs, output, table);
-        j += 1;
     }
     next
 }

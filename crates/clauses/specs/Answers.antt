@@ -1,27 +1,22 @@
 -- What the answers of the calls on clauses mean, and what these calls come to (document 01, "Clauses").
-use Rattle.std.specs.Prelude.{ℕ, List, ◌++◌, length, ℤ}
+use Rattle.std.specs.Prelude.{ℕ, List, ◌++◌, length, ℤ, Result}
 use Rattle.sheet.specs.Asking.{Question, Verdict}
-use Rattle.sheet.specs.Asking.Verdict.{accepted, refused}
 use Rattle.sheet.specs.Fields.{header_of, trail_of}
 use Rattle.sheet.specs.Questions.{questions, line_number_questions, room_questions}
 use Rattle.sheet.specs.declared.Mode.TheVariants.{Read}
+use Rattle.answers.specs.Answers.{answer_means}
 use Rattle.answers.specs.Calls.{Call, writing}
+use Rattle.answers.specs.declared.Refusal.{Refusal}
 use Rattle.clause_lists.specs.Lists.{line_list}
 use Rattle.clause_sizes.specs.declared.Counts.{Counts}
-use Rattle.clauses.specs.declared.CountsAnswer.{CountsAnswer}
-use Rattle.clauses.specs.declared.CountsAnswer.TheVariants as counts
-use Rattle.clauses.specs.declared.ListAnswer.{ListAnswer}
-use Rattle.clauses.specs.declared.ListAnswer.TheVariants as list
 
 -- document 01's number and place for a refusal, both counts else
-abbrev pub counts_means : CountsAnswer → Verdict Counts
-counts_means (counts.Given c) = accepted c
-counts_means (counts.Refused r) = refused r.number r.place
+abbrev pub counts_means : Result Counts Refusal → Verdict Counts
+counts_means = answer_means (λ c. c)
 
 -- how many numbers were written
-abbrev pub list_means : ListAnswer → Verdict ℕ
-list_means (list.Written n) = accepted n
-list_means (list.Refused r) = refused r.number r.place
+abbrev pub list_means : Result ℕ Refusal → Verdict ℕ
+list_means = answer_means (λ n. n)
 
 -- the questions of the call for one line's list: 17, then 18 for this very answer
 abbrev pub list_asks : List ℕ → ℕ → List ℤ → List Question

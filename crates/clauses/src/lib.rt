@@ -10,59 +10,43 @@ ghost use Rattle.sheet.specs.declared.Mode.TheVariants.{Read};
 ghost use Rattle.clause_sizes.specs.Counts.{counts_of};
 ghost use Rattle.clauses.specs.Answers.{counts_means, list_means, list_call};
 
-use answers::{Reading, Refusal, refusal_of};
+use answers::Refusal;
 use clause_sizes::Counts;
 use clause_sizes::counting::both_counts;
 use clause_sizes::sizes::list_numbers;
 use line_clauses::put_line;
 use reading::read;
-
-#[derive(Clone, Copy)]
-pub enum CountsAnswer {
-    Given(Counts),
-    Refused(Refusal),
-}
-
-// How many numbers were written, or the refusal.
-#[derive(Clone, Copy)]
-pub enum ListAnswer {
-    Written(usize),
-    Refused(Refusal),
-}
+use sheet_fields::read_sheet::ReadSheet;
 
 // Both counts of a sheet.
-pub fn clause_counts(sheet: &[u8]) -> CountsAnswer
+pub fn clause_counts(sheet: &[u8]) -> Result<Counts, Refusal>
     ensures { counts_means result ≡ verdict (questions Read sheet.now) (counts_of (trail_of sheet.now)) }
 {
-    let reading = read(sheet);
-    let Reading::Accepted(header) = reading else {
-        return CountsAnswer::Refused(refusal_of(reading));
+    let header = read(sheet)?;
+    let sheet = ReadSheet {
+        bytes: sheet,
+        header,
     };
-    CountsAnswer::Given(both_counts(sheet, header))
+    Ok(both_counts(&sheet))
 }
 
-// Writes the list of line k from the buffer's start: literals, and a 0 after each clause.
-pub fn line_list(sheet: &[u8], k: usize, out: &mut [i32]) -> ListAnswer
+// Writes the list of line k from the buffer's start: literals, and a 0 after each clause. Counts the numbers.
+pub fn line_list(sheet: &[u8], k: usize, out: &mut [i32]) -> Result<usize, Refusal>
     ensures { (list_means result ≡ (list_call sheet.now k out.old).answer)
         × (out.new ≡ (list_call sheet.now k out.old).buffer) }
 {
-    let reading = read(sheet);
-    let Reading::Accepted(header) = reading else {
-        return ListAnswer::Refused(refusal_of(reading));
-    };
+    let header = read(sheet)?;
     if header.lines <= k {
-        return ListAnswer::Refused(Refusal {
-            number: 17,
-            place: 0,
-        });
+        return Err(Refusal::NoSuchLine);
     }
-    let need = list_numbers(sheet, header, k);
+    let sheet = ReadSheet {
+        bytes: sheet,
+        header,
+    };
+    let need = list_numbers(&sheet, k);
     if out.len() < need {
-        return ListAnswer::Refused(Refusal {
-            number: 18,
-            place: 0,
-        });
+        return Err(Refusal::Room);
     }
-    let numbers = put_line(sheet, header, k, out, 0);
-    ListAnswer::Written(numbers)
+    let numbers = put_line(&sheet, k, out, 0);
+    Ok(numbers)
 }

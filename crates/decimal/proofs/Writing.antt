@@ -1,4 +1,4 @@
--- What the writers have written: a text from its first byte on, a number from its last digit on. Assumes nothing.
+-- What the writers have written, a number from its last digit on. Assumes nothing.
 use mathlib.Core.Path.{◌≡◌, refl, sym, ap, ◌∙◌}
 use mathlib.Core.List.{List, [], ◌∷◌, ◌++◌, append_assoc}
 use Prim.Native.Nat.{ℕ, suc, ◌+◌, ◌-◌, ◌/◌, ◌%◌, ◌≤◌, ◌<◌}
@@ -11,10 +11,6 @@ use Rattle.buffers.proofs.Overwrite.{set_overwrite, overwrite_cons}
 use Rattle.decimal.specs.Ascii.{ascii}
 use Rattle.decimal.specs.Decimal.{decimal, spaced, behind}
 use Rattle.decimal.proofs.Decimals.{small, large, length_small, length_large}
-
--- a text's bytes from the i-th on
-pub byte_next : (text : List ℕ) (i : ℕ) → i < length text → drop i text ≡ (get_or text i 0 ∷ []) ++ drop (i + 1) text
-byte_next text i h = rw (add-one, drop-cons text i 0)
 
 module _ {A : Type 0} where
   drop_set : (p : ℕ) (v : A) (l : List A) → p < length l → drop p (set l p v) ≡ v ∷ drop (suc p) l

@@ -12,22 +12,27 @@ ghost use Rattle.digit_pairs.specs.Pairs.{two_digits, PairTable};
 pub const TABLE_BYTES: usize = 200;
 
 // The table.
-pub fn digit_pairs() -> [u8; TABLE_BYTES]
-    ensures { PairTable result }
+#[derive(Drop)]
+pub struct DigitPairs {
+    pub bytes: [u8; TABLE_BYTES],
+    pub ghost filled: { PairTable bytes },
+}
+
+// Fills the table.
+pub fn digit_pairs() -> DigitPairs
+    ensures { PairTable result.bytes }
 {
     let mut table = [0u8; TABLE_BYTES];
-    let mut v = 0;
-    while v < 100 {
+    for v in 0..100 {
         table[2 * v] = b'0' + (v / 10) as u8;
         table[2 * v + 1] = b'0' + (v % 10) as u8;
-        v += 1;
     }
-    table
+    DigitPairs { bytes: table }
 }
 
 // Writes a number below 1,000,000 in decimal from a position on. Returns the next position.
-pub fn put_quick(out: &mut [u8], at: usize, table: &[u8], value: usize) -> usize
-    requires { PairTable table.now × (value < 1000000) × (at + length (decimal value) ≤ length out.old) }
+pub fn put_quick(out: &mut [u8], at: usize, table: &DigitPairs, value: usize) -> usize
+    requires { (value < 1000000) × (at + length (decimal value) ≤ length out.old) }
     ensures { Wrote at (decimal value) out.old result out.new }
 {
     if value < 100 {
@@ -43,8 +48,8 @@ pub fn put_quick(out: &mut [u8], at: usize, table: &[u8], value: usize) -> usize
 }
 
 // Writes a number below 100, with one digit or two.
-fn put_short(out: &mut [u8], at: usize, table: &[u8], value: usize) -> usize
-    requires { PairTable table.now × (value < 100) × (at + length (decimal value) ≤ length out.old) }
+fn put_short(out: &mut [u8], at: usize, table: &DigitPairs, value: usize) -> usize
+    requires { (value < 100) × (at + length (decimal value) ≤ length out.old) }
     ensures { Wrote at (decimal value) out.old result out.new }
 {
     if value < 10 {
@@ -55,11 +60,11 @@ fn put_short(out: &mut [u8], at: usize, table: &[u8], value: usize) -> usize
 }
 
 // Writes both digits of a number below 100.
-fn put_pair(out: &mut [u8], at: usize, table: &[u8], value: usize) -> usize
-    requires { PairTable table.now × (value < 100) × (at + 2 ≤ length out.old) }
+fn put_pair(out: &mut [u8], at: usize, table: &DigitPairs, value: usize) -> usize
+    requires { (value < 100) × (at + 2 ≤ length out.old) }
     ensures { Wrote at (two_digits value) out.old result out.new }
 {
-    out[at] = table[2 * value];
-    out[at + 1] = table[2 * value + 1];
+    out[at] = table.bytes[2 * value];
+    out[at + 1] = table.bytes[2 * value + 1];
     at + 2
 }

@@ -36,10 +36,8 @@ fn put_rows(out: &mut [i32], at: usize, lits: &[i32], count: usize, table: u32) 
 {
     let rows = 1u32 << (count - 1);
     let mut next = at;
-    let mut inputs = 0u32;
-    while inputs < rows {
+    for inputs in 0..rows {
         next = put_clause(out, next, lits, count, wrong_row(table, inputs));
-        inputs += 1;
     }
     next
 }
@@ -63,12 +61,9 @@ fn put_clause(out: &mut [i32], at: usize, lits: &[i32], count: usize, row: u32) 
         × (at + length (numbers (clause_of lits.now row ∷ [])) ≤ length out.old) }
     ensures { Wrote at (numbers (clause_of lits.now row ∷ [])) out.old result out.new }
 {
-    let mut i = 0;
-    while i < count {
+    for i in 0..count {
         let behind = count - 1 - i;
-        let literal = lits[i];
-        out[at + i] = signed(literal, bit(row as u64, behind as u32));
-        i += 1;
+        out[at + i] = signed(lits[i], bit(row as u64, behind as u32));
     }
     out[at + count] = 0;
     at + count + 1

@@ -11,7 +11,7 @@ ghost use Rattle.sheet.specs.Questions.{within as Questions·within, zero_bytes,
 ghost use Rattle.sheet.specs.Facts.{Whole};
 ghost use Rattle.answers.specs.Answers.{reading_means};
 
-use answers::{Reading, refused};
+use answers::Refusal;
 use arithmetic::is_word;
 use sheet::Header;
 use sheet_fields::input_difference;
@@ -75,14 +75,7 @@ fn inputs_right(s: &[u8], header: Header) -> bool
     requires { (inputs_end header.form ≤ length s.now) × (1 ≤ header.width) × (header.width ≤ 64) }
     ensures { result ≡ all 8 (input_right s.now header) }
 {
-    let mut j = 0;
-    while j < 8 {
-        if !input_right(s, header, j) {
-            return false;
-        }
-        j += 1;
-    }
-    true
+    (0..8).all(|j| input_right(s, header, j))
 }
 
 // Whether the header's bytes from the end of its input differences to its check are zero.
@@ -96,27 +89,27 @@ fn rest_zero(s: &[u8], header: Header) -> bool
 }
 
 // Questions 3 to 8.
-pub fn header_stage(s: &[u8], header: Header) -> Reading
+pub fn header_stage(s: &[u8], header: Header) -> Result<Header, Refusal>
     requires { Whole s.now header }
     ensures { reading_means result ≡ verdict (header_questions s.now header) header }
 {
     if !marked(s) {
-        return refused(3, 0);
+        return Err(Refusal::Mark);
     }
     if !width_right(header) {
-        return refused(4, 0);
+        return Err(Refusal::Width);
     }
     if !within(1, 8, header.inputs) {
-        return refused(5, 0);
+        return Err(Refusal::Inputs);
     }
     if !lines_right(header) {
-        return refused(6, 0);
+        return Err(Refusal::Lines);
     }
     if !inputs_right(s, header) {
-        return refused(7, 0);
+        return Err(Refusal::InputDifferences);
     }
     if !rest_zero(s, header) {
-        return refused(8, 0);
+        return Err(Refusal::HeaderRest);
     }
-    Reading::Accepted(header)
+    Ok(header)
 }

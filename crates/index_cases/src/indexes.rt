@@ -2,8 +2,7 @@
 ghost use Rattle.std.specs.Prelude.{◌≤◌};
 
 use crate::MOST_NUMBERS;
-use case_text::print::{print, print_number, print_refused};
-use indexing::IndexAnswer;
+use case_text::print::{print_numbers, print_refused};
 use std::io;
 use std::io::Write;
 
@@ -13,7 +12,7 @@ const MOST_LENT: usize = 764;
 // A buffer of a length, one that is a number longer, and one that is four numbers longer.
 pub fn print_buffers(out: &mut impl Write, sheet: &[u8], room: usize) -> io::Result<()> {
     if MOST_LENT < room {
-        return print(out, b" too long");
+        return write!(out, " too long");
     }
     print_buffer(out, sheet, room)?;
     print_buffer(out, sheet, room + 1)?;
@@ -25,24 +24,16 @@ fn print_buffer(out: &mut impl Write, sheet: &[u8], room: usize) -> io::Result<(
     requires { room ≤ 768 }
 {
     let mut buffer = [999u16; MOST_NUMBERS];
-    print_number(out, b"\n  buffer of ", room as u64)?;
+    write!(out, "\n  buffer of {room}")?;
     print_index(out, sheet, &mut buffer[0..room])
 }
 
 // The answer of `indexing::index`, ` written NUMBERS` or a refusal, and the numbers of the buffer afterwards.
 fn print_index(out: &mut impl Write, sheet: &[u8], buffer: &mut [u16]) -> io::Result<()> {
     match indexing::index(sheet, buffer) {
-        IndexAnswer::Written(numbers) => print_number(out, b" written ", numbers as u64)?,
-        IndexAnswer::Refused(refusal) => print_refused(out, refusal.number, refusal.place)?,
+        Ok(numbers) => write!(out, " written {numbers}")?,
+        Err(refusal) => print_refused(out, refusal.number(), refusal.place())?,
     }
-    print(out, b":")?;
+    write!(out, ":")?;
     print_numbers(out, buffer)
-}
-
-// Numbers, each after a space.
-fn print_numbers(out: &mut impl Write, numbers: &[u16]) -> io::Result<()> {
-    for i in 0..numbers.len() {
-        print_number(out, b" ", numbers[i] as u64)?;
-    }
-    Ok(())
 }

@@ -2,19 +2,18 @@
 ghost use Rattle.std.specs.Prelude.{◌≡◌, length};
 
 use crate::{MOST_NUMBERS, REPORT_ROOM};
+use answers::Refusal;
 use case_text::checksum::with_bytes;
 use case_text::parse::number;
-use case_text::print::{print, print_number};
 use change_cases::print_made;
-use changing::{ChangeAnswer, change};
+use changing::change;
 use changing_indexed::change_indexed;
-use indexing::IndexAnswer;
-use report::{BufferAnswer, write_reports};
+use report::write_reports;
 use sheet_cases::print::print_changes;
 use std::io;
 use std::io::Write;
 
-// Makes one change after the other.
+// Makes one change after the other. Each tells where the next begins.
 pub fn run_changes(
     out: &mut impl Write,
     line: &[u8],
@@ -62,9 +61,9 @@ fn run_change(
 }
 
 // Changes a sheet where a change was made.
-fn change_if(made: ChangeAnswer, sheet: &mut [u8], k: usize, difference: u64) {
-    if let ChangeAnswer::Changed = made {
-        change(sheet, k, difference);
+fn change_if(made: Result<(), Refusal>, sheet: &mut [u8], k: usize, difference: u64) {
+    if made.is_ok() {
+        let _ = change(sheet, k, difference);
     }
 }
 
@@ -84,7 +83,7 @@ pub fn run_claim(
     let difference = number(line, k.next);
     let other = number(line, difference.next);
     let stated = number(line, other.next);
-    change(copy, other.value, stated.value as u64);
+    let _ = change(copy, other.value, stated.value as u64);
     print_claim(
         out,
         sheet,
@@ -108,9 +107,9 @@ fn print_claim(
 ) -> io::Result<()>
     requires { length copy.old ≡ length sheet.old }
 {
-    print_call(out, sheet, copy, index, report, k, difference)?;
+    let _ = print_call(out, sheet, copy, index, report, k, difference)?;
     print_held(out, sheet, copy, index, report)?;
-    print_call(out, copy, sheet, index, report, k, difference)?;
+    let _ = print_call(out, copy, sheet, index, report, k, difference)?;
     Ok(())
 }
 
@@ -124,15 +123,14 @@ fn print_call(
     report: &mut [u8],
     k: usize,
     difference: u64,
-) -> io::Result<ChangeAnswer>
+) -> io::Result<Result<(), Refusal>>
     requires { length other.now ≡ length sheet.old }
 {
-    print_number(out, b"\n  line ", k as u64)?;
-    print_number(out, b" to ", difference)?;
+    write!(out, "\n  line {k} to {difference}")?;
     let made = change_indexed(sheet, index, report, k, difference);
     print_made(out, made)?;
     print_changes(out, other, sheet)?;
-    print_number(out, b", report ", with_bytes(0, report, 0))?;
+    write!(out, ", report {}", with_bytes(0, report, 0))?;
     Ok(made)
 }
 
@@ -144,31 +142,31 @@ fn print_held(
     index: &[u16],
     report: &[u8],
 ) -> io::Result<()> {
-    print_same(out, b"; sheet", sheet == copy)?;
-    print_same(out, b", index", is_index_of(copy, index))?;
-    print_same(out, b", report", is_report_of(copy, report))
+    write!(
+        out,
+        "; sheet {}, index {}, report {}",
+        same_or_other(sheet == copy),
+        same_or_other(is_index_of(copy, index)),
+        same_or_other(is_report_of(copy, report))
+    )
 }
 
-// What a comparison comes to, after a text.
-fn print_same(out: &mut impl Write, text: &[u8], is_same: bool) -> io::Result<()> {
-    print(out, text)?;
-    if is_same {
-        return print(out, b" same");
-    }
-    print(out, b" other")
+// What a comparison comes to.
+fn same_or_other(is_same: bool) -> &'static str {
+    if is_same { "same" } else { "other" }
 }
 
 // Whether an index is that of a sheet. A sheet that is refused has none.
 fn is_index_of(sheet: &[u8], index: &[u16]) -> bool {
     let mut fresh = [0u16; MOST_NUMBERS];
     match indexing::index(sheet, &mut fresh) {
-        IndexAnswer::Written(count) => {
+        Ok(count) => {
             if MOST_NUMBERS < count {
                 return false;
             }
             index == &fresh[0..count]
         }
-        IndexAnswer::Refused(_) => false,
+        Err(_) => false,
     }
 }
 
@@ -176,12 +174,12 @@ fn is_index_of(sheet: &[u8], index: &[u16]) -> bool {
 fn is_report_of(sheet: &[u8], report: &[u8]) -> bool {
     let mut fresh = [0u8; REPORT_ROOM];
     match write_reports(sheet, &mut fresh) {
-        BufferAnswer::Written(bytes) => {
+        Ok(bytes) => {
             if REPORT_ROOM < bytes {
                 return false;
             }
             report == &fresh[0..bytes]
         }
-        BufferAnswer::Refused(_) => false,
+        Err(_) => false,
     }
 }

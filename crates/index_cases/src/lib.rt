@@ -19,7 +19,6 @@ ghost use Rattle.std.specs.Prelude.{◌≡◌, ◌≤◌, ◌<◌, length};
 use crate::indexes::print_buffers;
 use crate::lent::{run_changes, run_claim};
 use case_text::parse::{find, number, take_sheet};
-use case_text::print::print;
 use std::io;
 use std::io::Write;
 
@@ -33,10 +32,10 @@ const MOST_NUMBERS: usize = 768;
 // Answers one line: its name, and what it comes to.
 pub fn run_case(out: &mut impl Write, line: &[u8]) -> io::Result<()> {
     let colon = find(line, 0, b':');
-    print(out, &line[0..colon])?;
-    print(out, b":")?;
+    out.write_all(&line[0..colon])?;
+    write!(out, ":")?;
     take_case(out, line, colon)?;
-    print(out, b"\n")
+    writeln!(out)
 }
 
 // Answers a case whose name ends at the colon.
@@ -95,7 +94,7 @@ fn take_index(
     let size = number(line, from);
     let count = size.value;
     if MOST_NUMBERS < count {
-        return print(out, b" too many");
+        return write!(out, " too many");
     }
     let mut index = [0u16; MOST_NUMBERS];
     run_listed(

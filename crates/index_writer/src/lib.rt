@@ -8,13 +8,12 @@ ghost use Rattle.std.specs.Prelude.{◌≡◌, ◌+◌, ◌^◌, ◌<◌, ◌≤
 ghost use Rattle.buffers.specs.Overwrite.{Wrote};
 ghost use Rattle.trail.specs.WellFormed.{most_words};
 ghost use Rattle.sheet.specs.Fields.{trail_of};
-ghost use Rattle.sheet.specs.Facts.{SheetRead};
 ghost use Rattle.sheet_indexes.specs.Users.{users};
 ghost use Rattle.sheet_indexes.specs.Index.{word_count, index_of, part_start};
 ghost use Rattle.index_writer.specs.Placing.{names_another, users_before, Kept, Placed};
 
-use sheet::Header;
 use sheet_fields::lines::line_at;
+use sheet_fields::read_sheet::ReadSheet;
 use trail::Line;
 
 // The words of the longest sheet.
@@ -24,40 +23,36 @@ pub const WORDS: usize = 256;
 pub const INDEX_NUMBERS: usize = 752;
 
 // Finds where each word's part of the index starts, in an array of zeros. Returns the index's length.
-pub fn index_starts(sheet: &[u8], header: Header, starts: &mut [u16; WORDS]) -> usize
-    requires { SheetRead sheet.now header × Kept most_words (λ j. 0) starts.old }
-    ensures { (result ≡ length (index_of (trail_of sheet.now)))
-        × Kept (word_count (trail_of sheet.now)) (part_start (trail_of sheet.now)) starts.new }
+pub fn index_starts(sheet: &ReadSheet, starts: &mut [u16; WORDS]) -> usize
+    requires { Kept most_words (λ j. 0) starts.old }
+    ensures { (result ≡ length (index_of (trail_of sheet.now.bytes.now)))
+        × Kept (word_count (trail_of sheet.now.bytes.now)) (part_start (trail_of sheet.now.bytes.now)) starts.new }
 {
-    count_users(sheet, header, starts);
-    let words = header.inputs + header.lines;
+    count_users(sheet, starts);
+    let words = sheet.header.inputs + sheet.header.lines;
     let mut next = 0;
-    let mut j = 0;
-    while j < words {
+    for j in 0..words {
         let users = starts[j] as usize;
         starts[j] = next as u16;
         next += 1 + users;
-        j += 1;
     }
     next
 }
 
 // Writes the index from the buffer's start, from where each word's part starts; the array has each part's last position then. Returns
 // the next position.
-pub fn put_index(sheet: &[u8], header: Header, starts: &mut [u16; WORDS], out: &mut [u16]) -> usize
-    requires { SheetRead sheet.now header × Kept (word_count (trail_of sheet.now)) (part_start (trail_of sheet.now)) starts.old
-        × (length (index_of (trail_of sheet.now)) ≤ length out.old) }
-    ensures { Wrote 0 (index_of (trail_of sheet.now)) out.old result out.new }
+pub fn put_index(sheet: &ReadSheet, starts: &mut [u16; WORDS], out: &mut [u16]) -> usize
+    requires { Kept (word_count (trail_of sheet.now.bytes.now)) (part_start (trail_of sheet.now.bytes.now)) starts.old
+        × (length (index_of (trail_of sheet.now.bytes.now)) ≤ length out.old) }
+    ensures { Wrote 0 (index_of (trail_of sheet.now.bytes.now)) out.old result out.new }
 {
-    put_users(sheet, header, starts, out);
-    let words = header.inputs + header.lines;
+    put_users(sheet, starts, out);
+    let words = sheet.header.inputs + sheet.header.lines;
     let mut at = 0;
-    let mut j = 0;
-    while j < words {
+    for j in 0..words {
         let last = starts[j] as usize;
         out[at] = (last - at) as u16;
         at = last + 1;
-        j += 1;
     }
     at
 }
@@ -74,40 +69,34 @@ fn names_another(line: Line) -> bool
 }
 
 // Counts the lines that name each word.
-fn count_users(sheet: &[u8], header: Header, counts: &mut [u16; WORDS])
-    requires { SheetRead sheet.now header × Kept most_words (λ j. 0) counts.old }
-    ensures { Kept most_words (users_before (trail_of sheet.now) header.lines) counts.new }
+fn count_users(sheet: &ReadSheet, counts: &mut [u16; WORDS])
+    requires { Kept most_words (λ j. 0) counts.old }
+    ensures { Kept most_words (users_before (trail_of sheet.now.bytes.now) sheet.now.header.lines) counts.new }
 {
-    let lines = header.lines;
-    let mut i = 0;
-    while i < lines {
-        let line = line_at(sheet, header, i);
+    for i in 0..sheet.header.lines {
+        let line = line_at(sheet, i);
         let first = line.first;
         counts[first] += 1;
         if names_another(line) {
             let second = line.second;
             counts[second] += 1;
         }
-        i += 1;
     }
 }
 
 // Puts each line into the parts of the words that it names. What was each part's start is then its last position.
-fn put_users(sheet: &[u8], header: Header, last: &mut [u16; WORDS], out: &mut [u16])
-    requires { SheetRead sheet.now header × Kept (word_count (trail_of sheet.now)) (part_start (trail_of sheet.now)) last.old
-        × (length (index_of (trail_of sheet.now)) ≤ length out.old) }
-    ensures { Placed (trail_of sheet.now) (λ j. length (users (trail_of sheet.now) j))
+fn put_users(sheet: &ReadSheet, last: &mut [u16; WORDS], out: &mut [u16])
+    requires { Kept (word_count (trail_of sheet.now.bytes.now)) (part_start (trail_of sheet.now.bytes.now)) last.old
+        × (length (index_of (trail_of sheet.now.bytes.now)) ≤ length out.old) }
+    ensures { Placed (trail_of sheet.now.bytes.now) (λ j. length (users (trail_of sheet.now.bytes.now) j))
         out.old last.new out.new }
 {
-    let lines = header.lines;
-    let mut i = 0;
-    while i < lines {
-        let line = line_at(sheet, header, i);
+    for i in 0..sheet.header.lines {
+        let line = line_at(sheet, i);
         put_user(last, out, line.first, i);
         if names_another(line) {
             put_user(last, out, line.second, i);
         }
-        i += 1;
     }
 }
 

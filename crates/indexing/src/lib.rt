@@ -6,34 +6,26 @@ ghost use Rattle.std.specs.Prelude.{◌≡◌};
 ghost use Rattle.sheet_indexes.specs.IndexCall.{index_call};
 ghost use Rattle.indexing.specs.Answers.{index_means};
 
-use answers::{Reading, Refusal, refusal_of};
+use answers::Refusal;
 use index_writer::{WORDS, index_starts, put_index};
 use reading::read;
+use sheet_fields::read_sheet::ReadSheet;
 
-// How many numbers were written, or the refusal.
-#[derive(Clone, Copy)]
-pub enum IndexAnswer {
-    Written(usize),
-    Refused(Refusal),
-}
-
-// Writes for each word how many lines use it, and those lines.
-pub fn index(sheet: &[u8], out: &mut [u16]) -> IndexAnswer
+// Writes for each word how many lines use it, and those lines. Returns how many numbers that is.
+pub fn index(sheet: &[u8], out: &mut [u16]) -> Result<usize, Refusal>
     ensures { (index_means result ≡ (index_call sheet.now out.old).answer)
         × (out.new ≡ (index_call sheet.now out.old).buffer) }
 {
-    let reading = read(sheet);
-    let Reading::Accepted(header) = reading else {
-        return IndexAnswer::Refused(refusal_of(reading));
+    let header = read(sheet)?;
+    let read_sheet = ReadSheet {
+        bytes: sheet,
+        header,
     };
     let mut starts = [0u16; WORDS];
-    let need = index_starts(sheet, header, &mut starts);
+    let need = index_starts(&read_sheet, &mut starts);
     if out.len() < need {
-        return IndexAnswer::Refused(Refusal {
-            number: 18,
-            place: 0,
-        });
+        return Err(Refusal::Room);
     }
-    let numbers = put_index(sheet, header, &mut starts, out);
-    IndexAnswer::Written(numbers)
+    let numbers = put_index(&read_sheet, &mut starts, out);
+    Ok(numbers)
 }

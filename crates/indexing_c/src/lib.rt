@@ -8,19 +8,13 @@ ghost use Rattle.indexed_changes.specs.IndexedCall.{indexed_call, indexed_sheet}
 ghost use Rattle.sheet_indexes.specs.IndexCall.{index_call};
 
 use answers::Answer;
-use changing::ChangeAnswer;
-use indexing::IndexAnswer;
 
 // Writes the index. Counts its numbers.
 pub fn index(sheet: &[u8], out: &mut [u16]) -> Answer
     ensures { (result ≡ answer_of (index_call sheet.now out.old).answer)
         × (out.new ≡ (index_call sheet.now out.old).buffer) }
 {
-    let answer = indexing::index(sheet, out);
-    match answer {
-        IndexAnswer::Written(numbers) => Answer::counted(numbers),
-        IndexAnswer::Refused(refusal) => Answer::refusing(refusal),
-    }
+    Answer::of(indexing::index(sheet, out))
 }
 
 // Changes one stated difference and renews the report. Counts nothing.
@@ -35,9 +29,6 @@ pub fn change_indexed(
         × (report.new ≡ (indexed_call sheet.old index.now report.old line difference).buffer)
         × (sheet.new ≡ indexed_sheet sheet.old index.now report.old line difference) }
 {
-    let answer = changing_indexed::change_indexed(sheet, index, report, line as usize, difference);
-    match answer {
-        ChangeAnswer::Changed => Answer::counted(0),
-        ChangeAnswer::Refused(refusal) => Answer::refusing(refusal),
-    }
+    let changed = changing_indexed::change_indexed(sheet, index, report, line as usize, difference);
+    Answer::of(changed.map(|()| 0))
 }

@@ -2,9 +2,8 @@
 ghost use Rattle.std.specs.Prelude.{◌≤◌, length};
 
 use crate::SHEET_BYTES;
-use case_text::print::print;
 use clause_cases::following::print_following;
-use joining::{JoinAnswer, join};
+use joining::join;
 use report_cases::whole::{lines_of, print_lines};
 use sheet_cases::print::print_changes;
 use sheet_cases::print_sealing;
@@ -28,11 +27,11 @@ pub fn print_joined(
     let length = join_into(first, second, names, &mut sheet);
     match letter {
         b'b' => {
-            print(out, b"\n  bytes")?;
+            write!(out, "\n  bytes")?;
             print_changes(out, &zeros[0..length], &sheet[0..length])
         }
         b'f' => {
-            print(out, b"\n  two runs")?;
+            write!(out, "\n  two runs")?;
             print_following(out, &sheet[0..length])
         }
         b'r' => {
@@ -52,12 +51,12 @@ fn join_into(first: &[u8], second: &[u8], names: &[u64], out: &mut [u8]) -> usiz
     ensures { result ≤ length out.old }
 {
     match join(first, second, names, out) {
-        JoinAnswer::Written(bytes) => {
+        Ok(bytes) => {
             if out.len() < bytes {
                 return 0;
             }
             bytes
         }
-        JoinAnswer::Refused(_) => 0,
+        Err(_) => 0,
     }
 }

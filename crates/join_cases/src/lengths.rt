@@ -2,8 +2,8 @@
 ghost use Rattle.std.specs.Prelude.{◌≤◌};
 
 use case_text::checksum::with_bytes;
-use case_text::print::{print, print_bytes, print_number, print_refused};
-use joining::{JoinAnswer, join};
+use case_text::print::{print_bytes, print_refused};
+use joining::join;
 use std::io;
 use std::io::Write;
 
@@ -21,7 +21,7 @@ pub fn print_buffers(
     length: usize,
 ) -> io::Result<()> {
     if MOST_BYTES < length {
-        return print(out, b" too long");
+        return write!(out, " too long");
     }
     print_buffer(out, first, second, names, length)?;
     print_buffer(out, first, second, names, length + 1)?;
@@ -39,7 +39,7 @@ fn print_buffer(
     requires { length ≤ 5632 }
 {
     let mut buffer = [0xA5u8; BUFFER_BYTES];
-    print_number(out, b"\n  buffer of ", length as u64)?;
+    write!(out, "\n  buffer of {length}")?;
     print_join(out, first, second, names, &mut buffer[0..length])
 }
 
@@ -53,21 +53,21 @@ fn print_join(
     buffer: &mut [u8],
 ) -> io::Result<()> {
     match join(first, second, names, buffer) {
-        JoinAnswer::Written(bytes) => {
-            print_number(out, b" written ", bytes as u64)?;
+        Ok(bytes) => {
+            write!(out, " written {bytes}")?;
             print_rest(out, buffer, bytes)?;
         }
-        JoinAnswer::Refused(refusal) => print_refused(out, refusal.number, refusal.place)?,
+        Err(refusal) => print_refused(out, refusal.number(), refusal.place())?,
     }
-    print_number(out, b", checksum ", with_bytes(0, buffer, 0xA5))
+    write!(out, ", checksum {}", with_bytes(0, buffer, 0xA5))
 }
 
 // The bytes from a position on.
 fn print_rest(out: &mut impl Write, buffer: &[u8], from: usize) -> io::Result<()> {
     if from <= buffer.len() {
-        print(out, b", rest [")?;
+        write!(out, ", rest [")?;
         print_bytes(out, &buffer[from..])?;
-        print(out, b"]")?;
+        write!(out, "]")?;
     }
     Ok(())
 }

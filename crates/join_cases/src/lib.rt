@@ -18,7 +18,6 @@ ghost use Rattle.std.specs.Prelude.{◌≤◌, length};
 use crate::joined::print_joined;
 use crate::lengths::print_buffers;
 use case_text::parse::{find, number, take_sheet, take_words};
-use case_text::print::print;
 use std::io;
 use std::io::Write;
 
@@ -30,10 +29,10 @@ const MOST_WORDS: usize = 16;
 // Answers one line: its name, and what it comes to.
 pub fn run_case(out: &mut impl Write, line: &[u8]) -> io::Result<()> {
     let colon = find(line, 0, b':');
-    print(out, &line[0..colon])?;
-    print(out, b":")?;
+    out.write_all(&line[0..colon])?;
+    write!(out, ":")?;
     take_case(out, line, colon)?;
-    print(out, b"\n")
+    writeln!(out)
 }
 
 // Answers a case whose name ends at the colon.
@@ -66,7 +65,7 @@ fn take_list(
     let size = number(line, from);
     let count = size.value;
     if MOST_WORDS < count {
-        return print(out, b" too many");
+        return write!(out, " too many");
     }
     let mut names = [0u64; MOST_WORDS];
     print_case(out, line, size.next, first, second, &mut names[0..count])

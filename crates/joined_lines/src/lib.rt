@@ -7,10 +7,11 @@ ghost use Rattle.trail.specs.Kinds.{kind_of, uses_second};
 ghost use Rattle.trail.specs.Trail.{Trail, input_count, line_count, line_at};
 ghost use Rattle.trail.specs.Joining.{joined_word, joined_line, joined};
 ghost use Rattle.sheet.specs.Fields.{trail_of};
-ghost use Rattle.sheet.specs.Facts.{Limited, SheetRead};
+ghost use Rattle.sheet.specs.Facts.{Limited};
 
 use sheet::Header;
 use sheet_fields::lines::line_at;
+use sheet_fields::read_sheet::ReadSheet;
 use trail::Line;
 
 // Word j of the second trail, renumbered: the word that is named for an input; a line's word behind all of the first's.
@@ -59,22 +60,17 @@ fn joined_line(a: Header, b: Header, names: &[u64], line: Line) -> Line
 }
 
 // Line k of the joined trail. Past its last line there is none, and the record of none is zero.
-pub fn joined_line_at(
-    first: &[u8],
-    a: Header,
-    second: &[u8],
-    b: Header,
-    names: &[u64],
-    k: usize,
-) -> Line
-    requires { SheetRead first.now a × SheetRead second.now b × (length names.now ≡ b.inputs) }
-    ensures { result ≡ line_at (joined (trail_of first.now) (trail_of second.now) names.now) k }
+pub fn joined_line_at(first: &ReadSheet, second: &ReadSheet, names: &[u64], k: usize) -> Line
+    requires { length names.now ≡ second.now.header.inputs }
+    ensures { result ≡ line_at (joined (trail_of first.now.bytes.now) (trail_of second.now.bytes.now) names.now) k }
 {
+    let a = first.header;
+    let b = second.header;
     if k < a.lines {
-        return line_at(first, a, k);
+        return line_at(first, k);
     }
     if k < a.lines + b.lines {
-        return joined_line(a, b, names, line_at(second, b, k - a.lines));
+        return joined_line(a, b, names, line_at(second, k - a.lines));
     }
     Line {
         kind: 0,

@@ -12,12 +12,8 @@ use Rattle.sheet.specs.Facts.{SheetRead}
 use Rattle.sheet.specs.Questions.{line_blocks, questions, room_questions}
 use Rattle.sheet.specs.declared.Header.{Header}
 use Rattle.sheet.specs.declared.Mode.TheVariants.{Read}
-use Rattle.sheet.proofs.Asking.{go_on, comes}
+use Rattle.sheet.proofs.Asking.{yes_verdict, go_on, comes}
 use Rattle.sheet.proofs.Asking.Comes.{done, yes, no}
-use Rattle.answers.specs.Answers.{reading_means}
-use Rattle.answers.specs.declared.Reading.{Reading}
-use Rattle.answers.specs.declared.Reading.TheVariants.{Accepted}
-use Rattle.answers.proofs.Answering.{asked}
 use Rattle.answers.proofs.Calling.{after_yes}
 use Rattle.sheet_encoding.specs.Encoding.{sheet_of}
 use Rattle.sheet_writer.proofs.SheetBytes.{sheet_length}
@@ -49,9 +45,9 @@ module _ {first second : List ℕ} (names out : List ℕ) {a b : Header} (one : 
       ∙ ap (λ (lines : ℕ). 512 * (1 + line_blocks a.form lines)) (joined_lines one two names)
 
   -- questions 20 to 22 are passed
-  module _ (r : Reading) (h : Header) (told : reading_means r ≡ verdict own a) (accepts : r ≡ Accepted h) where
+  module _ {h : Header} (told : accepted h ≡ verdict own a) where
     passed : all_yes own ≡ true
-    passed = (asked own a r h told accepts).0
+    passed = (yes_verdict own a h (sym told)).0
 
     pub lines_most : a.lines + b.lines ≤ 248
     lines_most = omega (arith, few_lines first second names passed, one.lines, two.lines)

@@ -1,17 +1,15 @@
 -- What the answer of the call that joins two sheets means (document 02, W-203), and what joining two sheets that were read comes to.
-use Rattle.std.specs.Prelude.{ℕ, List, ◌++◌, length}
+use Rattle.std.specs.Prelude.{ℕ, List, ◌++◌, length, Result}
 use Rattle.sheet.specs.Asking.{Question, Verdict}
-use Rattle.sheet.specs.Asking.Verdict.{accepted, refused}
 use Rattle.sheet.specs.Questions.{room_questions}
+use Rattle.answers.specs.Answers.{answer_means}
+use Rattle.answers.specs.declared.Refusal.{Refusal}
 use Rattle.answers.specs.Calls.{Call, writing}
 use Rattle.joined_sheets.specs.JoinedSheet.{join_questions, joined_sheet}
-use Rattle.joining.specs.declared.JoinAnswer.{JoinAnswer}
-use Rattle.joining.specs.declared.JoinAnswer.TheVariants.{Written, Refused}
 
 -- the number of bytes written
-abbrev pub join_means : JoinAnswer → Verdict ℕ
-join_means (Written n) = accepted n
-join_means (Refused r) = refused r.number r.place
+abbrev pub join_means : Result ℕ Refusal → Verdict ℕ
+join_means = answer_means (λ n. n)
 
 -- what is asked of two sheets that were read: 20, 21 and 22; 18 last, for this very answer
 abbrev pub own_asks : List ℕ → List ℕ → List ℕ → List ℕ → List Question

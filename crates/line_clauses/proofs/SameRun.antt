@@ -28,7 +28,8 @@ use Rattle.sheet.specs.Fields.{trail_of}
 use Rattle.sheet.specs.Facts.{SheetRead}
 use Rattle.sheet.proofs.WellFormed.{line_at_right}
 use Rattle.run_literals.specs.declared.LineRun.{LineRun}
-use Rattle.run_literals.specs.Run.{signed_literal, difference_in, word_in, carry_in, ProperRun}
+use Rattle.run_literals.specs.Proper.{ProperRun}
+use Rattle.run_literals.specs.Run.{signed_literal, difference_in, word_in, carry_in}
 use Rattle.clause_writer.specs.Writing.{clauses_of_run}
 use Rattle.run_literals.proofs.RunLiterals.{made_signed, first_signed, second_signed}
 use Rattle.clause_sizes.proofs.SheetCounts.{before_most}
@@ -112,10 +113,7 @@ module _ (s : List ℕ) (h : Header) (read : SheetRead s h) (k : ℕ) (less : k 
 
     -- ---- the first run: no literal is negated
 
-    abbrev first_of : LineRun
-    first_of = record { width = h.width; word = h.inputs + k; line = l; first = 0; second = 0; made = 0; carries = v }
-
-    first_proper : ProperRun first_of
+    pub first_proper : ProperRun h.width (h.inputs + k) l 0 0 v
     first_proper = record {
       width_least = read.limits.width_least;
       width_most = omega (arith, read.width_most);
@@ -125,44 +123,35 @@ module _ (s : List ℕ) (h : Header) (read : SheetRead s h) (k : ℕ) (less : k 
       alike = λ _. refl;
     }
 
-    first_word : (j i : ℕ) → word_in first_of j i ≡ bit_literal t firstRun j i
-    unfolding word_in signed_literal bit_literal bit_variable
-    first_word j i =
-        let variable : ℤ = pos (h.width * j + i + 1) in
-        ap (λ (d : ℕ). cond (bit d i) (neg_ℤ variable) variable) (unsigned (eqb j (h.inputs + k)) (eqb j l.first))
-        ∙ ap (λ (b : Bool). cond b (neg_ℤ variable) variable) (zero_bit i)
-        ∙ ap (λ (n : ℕ). pos (n * j + i + 1)) (sym read.width)
+    module _ (proper : ProperRun h.width (h.inputs + k) l 0 0 v) where
+      abbrev first_of : LineRun
+      first_of = record { width = h.width; word = h.inputs + k; line = l; first = 0; second = 0; made = 0; carries = v; proper = proper }
 
-    first_carry : (i : ℕ) → carry_in first_of i ≡ carry_literal t firstRun k i
-    unfolding carry_in carry_literal carry_variable
-    first_carry i = ap (λ (n : ℕ). pos (n + i)) before
+      first_word : (j i : ℕ) → word_in first_of j i ≡ bit_literal t firstRun j i
+      unfolding word_in signed_literal bit_literal bit_variable
+      first_word j i =
+          let variable : ℤ = pos (h.width * j + i + 1) in
+          ap (λ (d : ℕ). cond (bit d i) (neg_ℤ variable) variable) (unsigned (eqb j (h.inputs + k)) (eqb j l.first))
+          ∙ ap (λ (b : Bool). cond b (neg_ℤ variable) variable) (zero_bit i)
+          ∙ ap (λ (n : ℕ). pos (n * j + i + 1)) (sym read.width)
 
-    pub first_run_is : ProperRun first_of × (clauses_of_run first_of ≡ clauses_in t firstRun k)
-    first_run_is = (
-      first_proper,
-      same_clauses first_of line refl refl firstRun (record {
-        made = first_word (h.inputs + k);
-        first = first_word l.first;
-        second = first_word l.second;
-        carries = first_carry;
-      }),
-    )
+      first_carry : (i : ℕ) → carry_in first_of i ≡ carry_literal t firstRun k i
+      unfolding carry_in carry_literal carry_variable
+      first_carry i = ap (λ (n : ℕ). pos (n + i)) before
+
+      pub first_run_is : clauses_of_run first_of ≡ clauses_in t firstRun k
+      first_run_is =
+          same_clauses first_of line refl refl firstRun (record {
+            made = first_word (h.inputs + k);
+            first = first_word l.first;
+            second = first_word l.second;
+            carries = first_carry;
+          })
 
     -- ---- the second run: the ones of a word's difference negate its literals
 
     module _ (first second : ℕ) (x : first ≡ difference_at t l.first) (y : second ≡ difference_at t l.second) where
-      abbrev second_of : LineRun
-      second_of = record {
-        width = h.width;
-        word = h.inputs + k;
-        line = l;
-        first = first;
-        second = second;
-        made = l.difference;
-        carries = v + (h.width - 1);
-      }
-
-      second_proper : ProperRun second_of
+      pub second_proper : ProperRun h.width (h.inputs + k) l first second (v + (h.width - 1))
       second_proper = record {
         width_least = read.limits.width_least;
         width_most = omega (arith, read.width_most);
@@ -172,28 +161,39 @@ module _ (s : List ℕ) (h : Header) (read : SheetRead s h) (k : ℕ) (less : k 
         alike = λ e. x ∙ ap (difference_at t) e ∙ sym y;
       }
 
-      second_word : (j : ℕ) → difference_in second_of j ≡ difference_at t j → (i : ℕ) → word_in second_of j i ≡ bit_literal t secondRun j i
-      unfolding word_in signed_literal bit_literal bit_variable
-      second_word j e i =
-          ap₂ (λ (n d : ℕ). cond (bit d i) (neg_ℤ (pos (n * j + i + 1))) (pos (n * j + i + 1))) (sym read.width) e
+      module _ (proper : ProperRun h.width (h.inputs + k) l first second (v + (h.width - 1))) where
+        abbrev second_of : LineRun
+        second_of = record {
+          width = h.width;
+          word = h.inputs + k;
+          line = l;
+          first = first;
+          second = second;
+          made = l.difference;
+          carries = v + (h.width - 1);
+          proper = proper;
+        }
 
-      made_difference : l.difference ≡ difference_at t (h.inputs + k)
-      made_difference =
-          ap (λ (z : Line). z.difference) line
-          ∙ sym (difference_line t k)
-          ∙ ap (λ (m : ℕ). difference_at t (m + k)) read.inputs
+        second_word : (j : ℕ) → difference_in second_of j ≡ difference_at t j → (i : ℕ) → word_in second_of j i ≡ bit_literal t secondRun j i
+        unfolding word_in signed_literal bit_literal bit_variable
+        second_word j e i =
+            ap₂ (λ (n d : ℕ). cond (bit d i) (neg_ℤ (pos (n * j + i + 1))) (pos (n * j + i + 1))) (sym read.width) e
 
-      second_carry_lem : (i : ℕ) → carry_in second_of i ≡ carry_literal t secondRun k i
-      unfolding carry_in carry_literal carry_variable
-      second_carry_lem i = ap₂ (λ (b n : ℕ). pos (b + (n - 1) + i)) before (sym read.width)
+        made_difference : l.difference ≡ difference_at t (h.inputs + k)
+        made_difference =
+            ap (λ (z : Line). z.difference) line
+            ∙ sym (difference_line t k)
+            ∙ ap (λ (m : ℕ). difference_at t (m + k)) read.inputs
 
-      pub second_run_is : ProperRun second_of × (clauses_of_run second_of ≡ clauses_in t secondRun k)
-      second_run_is = (
-        second_proper,
-        same_clauses second_of line refl refl secondRun (record {
-          made = second_word (h.inputs + k) (made_signed second_proper ∙ made_difference);
-          first = second_word l.first (first_signed second_proper ∙ x);
-          second = second_word l.second (second_signed second_proper ∙ y);
-          carries = second_carry_lem;
-        }),
-      )
+        second_carry_lem : (i : ℕ) → carry_in second_of i ≡ carry_literal t secondRun k i
+        unfolding carry_in carry_literal carry_variable
+        second_carry_lem i = ap₂ (λ (b n : ℕ). pos (b + (n - 1) + i)) before (sym read.width)
+
+        pub second_run_is : clauses_of_run second_of ≡ clauses_in t secondRun k
+        second_run_is =
+            same_clauses second_of line refl refl secondRun (record {
+              made = second_word (h.inputs + k) (made_signed second_of ∙ made_difference);
+              first = second_word l.first (first_signed second_of ∙ x);
+              second = second_word l.second (second_signed second_of ∙ y);
+              carries = second_carry_lem;
+            })

@@ -9,7 +9,7 @@ ghost use Rattle.sheet.specs.Questions.{field_questions, record_questions, line_
 ghost use Rattle.sheet.specs.Facts.{Whole, Limited};
 ghost use Rattle.answers.specs.Answers.{reading_means};
 
-use answers::{Reading, refused};
+use answers::Refusal;
 use arithmetic::is_word;
 use field_questions::{amount_right, constant_right, unused_zero};
 use operand_questions::{operands_differ, operands_earlier, self_xor_admitted};
@@ -18,59 +18,57 @@ use sheet_fields::predicates::within;
 use sheet_fields::record_of;
 
 // Questions 12 to 15 of line k's record, whose kind is known.
-fn fields_stage(header: Header, k: usize, line: Record) -> Reading
+fn fields_stage(header: Header, k: usize, line: Record) -> Result<Header, Refusal>
     requires { Limited header × (1 ≤ line.kind) × (line.kind ≤ 9) }
     ensures { reading_means result ≡ verdict (field_questions header k line) header }
 {
     let n = header.width;
     if !amount_right(line, n) {
-        return refused(12, k);
+        return Err(Refusal::Amount(k));
     }
     if !constant_right(line, n) {
-        return refused(13, k);
+        return Err(Refusal::Constant(k));
     }
     if !is_word(n, line.difference) {
-        return refused(14, k);
+        return Err(Refusal::Difference(k));
     }
     if !unused_zero(line) {
-        return refused(15, k);
+        return Err(Refusal::UnusedField(k));
     }
-    Reading::Accepted(header)
+    Ok(header)
 }
 
 // All questions of line k's record: 9 to 11, then 23 if the mode is sealing, then 12 to 15.
-fn record_stage(mode: Mode, header: Header, k: usize, line: Record) -> Reading
+fn record_stage(mode: Mode, header: Header, k: usize, line: Record) -> Result<Header, Refusal>
     requires { Limited header × (k < header.lines) }
     ensures { reading_means result ≡ verdict (record_questions mode header k line) header }
 {
     if !within(1, 9, line.kind as usize) {
-        return refused(9, k);
+        return Err(Refusal::Kind(k));
     }
     if !operands_earlier(line, header.inputs + k) {
-        return refused(10, k);
+        return Err(Refusal::LaterOperand(k));
     }
     if !operands_differ(line) {
-        return refused(11, k);
+        return Err(Refusal::SameOperands(k));
     }
     if !self_xor_admitted(mode, line) {
-        return refused(23, k);
+        return Err(Refusal::SelfXor(k));
     }
     fields_stage(header, k, line)
 }
 
 // The questions of each line, line by line.
-pub fn lines_stage(s: &[u8], mode: Mode, header: Header) -> Reading
+pub fn lines_stage(s: &[u8], mode: Mode, header: Header) -> Result<Header, Refusal>
     requires { Whole s.now header × Limited header }
     ensures { reading_means result ≡ verdict (concat header.lines (line_questions mode s.now header)) header }
 {
     let lines = header.lines;
-    let mut k = 0;
-    while k < lines {
+    for k in 0..lines {
         let answer = record_stage(mode, header, k, record_of(s, header, k));
-        let Reading::Accepted(_) = answer else {
+        let Ok(_) = answer else {
             return answer;
         };
-        k += 1;
     }
-    Reading::Accepted(header)
+    Ok(header)
 }

@@ -16,12 +16,10 @@ pub fn is_listed(list: &[u64], count: usize, line: Line) -> bool
     ensures { result ≡ is_listed list.now count line }
 {
     let numbers = numbers_of(line);
-    let mut i = 0;
-    while i < count {
+    for i in 0..count {
         if stands_at(list, LINE_NUMBERS * i, &numbers) {
             return true;
         }
-        i += 1;
     }
     false
 }
@@ -31,14 +29,7 @@ fn stands_at(list: &[u64], at: usize, numbers: &[u64]) -> bool
     requires { (length numbers.now ≡ line_numbers) × (at + line_numbers ≤ length list.now) }
     ensures { result ≡ stands_at list.now at numbers.now }
 {
-    let mut j = 0;
-    while j < LINE_NUMBERS {
-        if list[at + j] != numbers[j] {
-            return false;
-        }
-        j += 1;
-    }
-    true
+    &list[at..at + LINE_NUMBERS] == numbers
 }
 
 // A line's numbers. The first of them, its fingerprint, nearly always tells two lines apart: a search is one comparison a line.

@@ -5,11 +5,10 @@
 
 ghost use Rattle.std.specs.Prelude.{◌≡◌, ◌+◌, ◌≤◌, ◌<◌, length, nat_abs};
 ghost use Rattle.buffers.specs.Overwrite.{Wrote};
-ghost use Rattle.digit_pairs.specs.Pairs.{PairTable};
 ghost use Rattle.dimacs.specs.Text.{literal_text};
 ghost use Rattle.dimacs.specs.Numbers.{number_text, numbers_text, AllBelow};
 
-use digit_pairs::{digit_pairs, put_quick};
+use digit_pairs::{DigitPairs, digit_pairs, put_quick};
 
 // Writes a list of numbers, literals with a 0 after each clause: a clause a line.
 pub fn put_list(out: &mut [u8], at: usize, list: &[i32]) -> usize
@@ -18,18 +17,15 @@ pub fn put_list(out: &mut [u8], at: usize, list: &[i32]) -> usize
 {
     let table = digit_pairs();
     let mut next = at;
-    let mut i = 0;
-    while i < list.len() {
-        let number = list[i];
-        next = put_number(out, next, &table, number);
-        i += 1;
+    for number in list {
+        next = put_number(out, next, &table, *number);
     }
     next
 }
 
 // Writes a literal and a blank, or the 0 that closes a clause and the line's end.
-fn put_number(out: &mut [u8], at: usize, table: &[u8], number: i32) -> usize
-    requires { PairTable table.now × (nat_abs number < 1000000) × (at + length (number_text number) ≤ length out.old) }
+fn put_number(out: &mut [u8], at: usize, table: &DigitPairs, number: i32) -> usize
+    requires { (nat_abs number < 1000000) × (at + length (number_text number) ≤ length out.old) }
     ensures { Wrote at (number_text number) out.old result out.new }
 {
     if number == 0 {
@@ -43,8 +39,8 @@ fn put_number(out: &mut [u8], at: usize, table: &[u8], number: i32) -> usize
 }
 
 // Writes a literal: its variable, after a minus if it is negated.
-fn put_literal(out: &mut [u8], at: usize, table: &[u8], literal: i32) -> usize
-    requires { PairTable table.now × (nat_abs literal < 1000000) × (at + length (literal_text literal) ≤ length out.old) }
+fn put_literal(out: &mut [u8], at: usize, table: &DigitPairs, literal: i32) -> usize
+    requires { (nat_abs literal < 1000000) × (at + length (literal_text literal) ≤ length out.old) }
     ensures { Wrote at (literal_text literal) out.old result out.new }
 {
     let variable = magnitude(literal) as usize;

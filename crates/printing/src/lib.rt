@@ -6,12 +6,11 @@ ghost use Rattle.std.specs.Prelude.{◌≡◌, ◌++◌, ◌≤◌, length, take
 ghost use Rattle.text_parts.specs.Parts.{part_means};
 ghost use Rattle.printing.specs.Texts.{text_call, HasRoom};
 
-use answers::{Reading, Refusal, refusal_of};
+use answers::Refusal;
 use reading::read;
 use sheet_input::read_input;
 use std::io;
 use std::io::{Read, Write};
-use text_parts::PartAnswer;
 use texts::{REFUSAL_BYTES, clause_text, refusal_text, report_text};
 
 // One byte more than any sheet has: a longer input is refused for its length, whatever follows.
@@ -39,11 +38,10 @@ pub fn print(text: Text, input: &mut impl Read, output: &mut impl Write) -> io::
 
 // Prints a text of a sheet, or the refusal.
 fn print_sheet(output: &mut impl Write, text: Text, sheet: &[u8]) -> io::Result<()> {
-    let reading = read(sheet);
-    let Reading::Accepted(header) = reading else {
-        return print_refusal(output, refusal_of(reading));
-    };
-    print_parts(output, text, sheet, header.lines)
+    match read(sheet) {
+        Ok(header) => print_parts(output, text, sheet, header.lines),
+        Err(refusal) => print_refusal(output, refusal),
+    }
 }
 
 // Prints the parts of a text: one for each line, and one more. A refusal is printed and ends it, and so does a write that fails: after
@@ -55,8 +53,8 @@ fn print_parts(output: &mut impl Write, text: Text, sheet: &[u8], lines: usize) 
     let mut end = 0;
     for part in 0..=lines {
         match gather(text, sheet, part, &mut out, end) {
-            PartAnswer::Written(bytes) => end = make_room(output, &out, end + bytes)?,
-            PartAnswer::Refused(refusal) => return print_end(output, &out[0..end], refusal),
+            Ok(bytes) => end = make_room(output, &out, end + bytes)?,
+            Err(refusal) => return print_end(output, &out[0..end], refusal),
         }
     }
     output.write_all(&out[0..end])
@@ -75,7 +73,13 @@ fn make_room(output: &mut impl Write, out: &[u8], end: usize) -> io::Result<usiz
 }
 
 // Writes a part of a text behind what is gathered.
-fn gather(text: Text, sheet: &[u8], part: usize, out: &mut [u8], end: usize) -> PartAnswer
+fn gather(
+    text: Text,
+    sheet: &[u8],
+    part: usize,
+    out: &mut [u8],
+    end: usize,
+) -> Result<usize, Refusal>
     requires { end ≤ length out.old }
     ensures { (part_means result ≡ (text_call text sheet.now part (drop end out.old)).answer)
         × (out.new ≡ take end out.old ++ (text_call text sheet.now part (drop end out.old)).buffer) }
@@ -84,7 +88,7 @@ fn gather(text: Text, sheet: &[u8], part: usize, out: &mut [u8], end: usize) -> 
 }
 
 // Writes a part of a text.
-fn part_text(text: Text, sheet: &[u8], part: usize, out: &mut [u8]) -> PartAnswer
+fn part_text(text: Text, sheet: &[u8], part: usize, out: &mut [u8]) -> Result<usize, Refusal>
     ensures { (part_means result ≡ (text_call text sheet.now part out.old).answer)
         × (out.new ≡ (text_call text sheet.now part out.old).buffer) }
 {
@@ -103,6 +107,6 @@ fn print_end(output: &mut impl Write, gathered: &[u8], refusal: Refusal) -> io::
 // Prints a refusal.
 fn print_refusal(output: &mut impl Write, refusal: Refusal) -> io::Result<()> {
     let mut text = [0u8; REFUSAL_BYTES];
-    let bytes = refusal_text(refusal, &mut text);
+    let bytes = refusal_text(refusal.number(), refusal.place(), &mut text);
     output.write_all(&text[0..bytes])
 }

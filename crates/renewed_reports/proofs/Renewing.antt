@@ -1,12 +1,14 @@
 -- The lines that the index names for a word, renewed one after the other.
-use Prim.Native.Nat.{ℕ, suc, ◌+◌, ◌<◌, ◌≤◌}
+use Prim.Native.Nat.{ℕ, ◌+◌, ◌<◌, ◌≤◌}
 use native.Mathlib.Numerals.{add-one}
 use native.Mathlib.Omega.{arith}
 use mathlib.Core.Path.{◌≡◌, refl, sym, ap, ap₂, subst, ◌∙◌}
-use mathlib.Core.List.{List, [], ◌∷◌}
+use mathlib.Core.List.{List}
 use lib.ListN.{length, get_or, drop}
 use lib.Seq.{drop-cons, drop-length}
-use Rattle.trail.specs.Trail.{Trail, input_count, line_count}
+use Rattle.std.specs.List.{between}
+use Rattle.std.proofs.lemmas.List.Edits.{get_or-between}
+use Rattle.trail.specs.Trail.{Trail, input_count}
 use Rattle.sheet.specs.Fields.{trail_of}
 use Rattle.sheet.specs.Facts.{SheetRead}
 use Rattle.sheet.specs.declared.Header.{Header}
@@ -63,17 +65,28 @@ module _ {s : List ℕ} {h : Header} (read : SheetRead s h) (k : ℕ) (known : k
     found : at ≡ part_start t word
     found = here ∙ ap₂ part_at own (omega (arith, read.inputs)) ∙ part_found t word (omega (arith, word_there))
 
-    pub part_fits : at + 1 + length (users t word) ≤ length index
+    part_fits : at + 1 + length (users t word) ≤ length index
     part_fits = omega (arith, ap length own, found, part_inside t word word_there)
 
     pub named_count : get_or index at 0 ≡ length (users t word)
     named_count = ap₂ (λ (x : List ℕ) (p : ℕ). get_or x p 0) own found ∙ index_count t word word_there
 
-    pub named_line : (i : ℕ) → i < length (users t word) → get_or index (at + 1 + i) 0 ≡ get_or (users t word) i 0
-    named_line i l = ap₂ (λ (x : List ℕ) (p : ℕ). get_or x (p + 1 + i) 0) own found ∙ index_user t word word_there i l
+    -- the part is inside
+    pub part_in : (at + 1 + get_or index at 0 ≤ length index) × (length index ≤ most_numbers)
+    part_in = (omega (arith, named_count, part_fits), walk_fits.0)
+
+    -- the part's lines, which the code takes out
+    abbrev pub lines : List ℕ
+    lines = between (at + 1) (at + 1 + get_or index at 0) index
+
+    pub named_line : (i : ℕ) → i < length (users t word) → get_or lines i 0 ≡ get_or (users t word) i 0
+    named_line i l =
+        get_or-between index (at + 1) (at + 1 + get_or index at 0) i 0 (omega (arith, named_count))
+        ∙ ap₂ (λ (x : List ℕ) (p : ℕ). get_or x (p + 1 + i) 0) own found
+        ∙ index_user t word word_there i l
 
     -- it is one of the sheet
-    pub named_there : (i : ℕ) → i < length (users t word) → get_or index (at + 1 + i) 0 < h.lines
+    pub named_there : (i : ℕ) → i < length (users t word) → get_or lines i 0 < h.lines
     named_there i l =
         omega (
           arith,

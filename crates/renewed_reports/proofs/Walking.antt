@@ -2,11 +2,10 @@
 use Prim.Native.Nat.{ℕ, zero, suc, ◌+◌, ◌<◌, ◌≤◌}
 use native.Mathlib.Numerals.{add-one}
 use native.Mathlib.Omega.{arith}
-use mathlib.Core.Path.{◌≡◌, refl, sym, ap, subst, ◌∙◌}
+use mathlib.Core.Path.{◌≡◌, refl, sym, ap, ◌∙◌}
 use mathlib.Core.List.{List}
 use lib.ListN.{length, get_or}
 use Rattle.trail.specs.Trail.{Trail}
-use Rattle.sheet_indexes.specs.Users.{users}
 use Rattle.sheet_indexes.specs.Index.{word_count, index_of, part_start}
 use Rattle.sheet_indexes.proofs.Index.{start_none, start_next, part_inside, index_count}
 use Rattle.renewed_reports.specs.Walking.{part_at}

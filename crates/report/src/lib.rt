@@ -11,76 +11,54 @@ ghost use Rattle.trail_reports.specs.Lines.{line_report};
 ghost use Rattle.trail_reports.specs.Totals.{sheet_totals};
 ghost use Rattle.report.specs.Answers.{line_means, totals_means, buffer_means, line_asks, reports_call};
 
-use answers::{Reading, Refusal, refusal_of};
+use answers::Refusal;
 use differential::LineReport;
 use reading::read;
 use report_buffer::{REPORT_BYTES, put_reports};
+use sheet_fields::read_sheet::ReadSheet;
 use sheet_reports::{report_at, sum_reports};
 use trail_reports::Totals;
 
-#[derive(Clone, Copy)]
-pub enum LineAnswer {
-    Given(LineReport),
-    Refused(Refusal),
-}
-
-#[derive(Clone, Copy)]
-pub enum TotalsAnswer {
-    Given(Totals),
-    Refused(Refusal),
-}
-
-// How many bytes were written, or the refusal.
-#[derive(Clone, Copy)]
-pub enum BufferAnswer {
-    Written(usize),
-    Refused(Refusal),
-}
-
 // The report of line k.
-pub fn line_report(sheet: &[u8], k: usize) -> LineAnswer
+pub fn line_report(sheet: &[u8], k: usize) -> Result<LineReport, Refusal>
     ensures { line_means result ≡ verdict (line_asks sheet.now k) (line_report (trail_of sheet.now) k) }
 {
-    let reading = read(sheet);
-    let Reading::Accepted(header) = reading else {
-        return LineAnswer::Refused(refusal_of(reading));
-    };
+    let header = read(sheet)?;
     if header.lines <= k {
-        return LineAnswer::Refused(Refusal {
-            number: 17,
-            place: 0,
-        });
+        return Err(Refusal::NoSuchLine);
     }
-    LineAnswer::Given(report_at(sheet, header, k))
+    let sheet = ReadSheet {
+        bytes: sheet,
+        header,
+    };
+    Ok(report_at(&sheet, k))
 }
 
 // The sheet's totals.
-pub fn sheet_totals(sheet: &[u8]) -> TotalsAnswer
+pub fn sheet_totals(sheet: &[u8]) -> Result<Totals, Refusal>
     ensures { totals_means result ≡ verdict (questions Read sheet.now) (sheet_totals (trail_of sheet.now)) }
 {
-    let reading = read(sheet);
-    let Reading::Accepted(header) = reading else {
-        return TotalsAnswer::Refused(refusal_of(reading));
-    };
-    TotalsAnswer::Given(sum_reports(sheet, header))
+    let header = read(sheet)?;
+    Ok(sum_reports(&ReadSheet {
+        bytes: sheet,
+        header,
+    }))
 }
 
-// Writes the reports of all lines, 16 bytes each, from the buffer's start.
-pub fn write_reports(sheet: &[u8], out: &mut [u8]) -> BufferAnswer
+// Writes the reports of all lines, 16 bytes each, from the buffer's start. Counts the bytes.
+pub fn write_reports(sheet: &[u8], out: &mut [u8]) -> Result<usize, Refusal>
     ensures { (buffer_means result ≡ (reports_call sheet.now out.old).answer)
         × (out.new ≡ (reports_call sheet.now out.old).buffer) }
 {
-    let reading = read(sheet);
-    let Reading::Accepted(header) = reading else {
-        return BufferAnswer::Refused(refusal_of(reading));
-    };
+    let header = read(sheet)?;
     let need = REPORT_BYTES * header.lines;
     if out.len() < need {
-        return BufferAnswer::Refused(Refusal {
-            number: 18,
-            place: 0,
-        });
+        return Err(Refusal::Room);
     }
-    let bytes = put_reports(sheet, header, out);
-    BufferAnswer::Written(bytes)
+    let sheet = ReadSheet {
+        bytes: sheet,
+        header,
+    };
+    let bytes = put_reports(&sheet, out);
+    Ok(bytes)
 }

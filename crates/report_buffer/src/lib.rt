@@ -5,14 +5,13 @@
 ghost use Rattle.std.specs.Prelude.{◌+◌, ◌≤◌, length};
 ghost use Rattle.buffers.specs.Overwrite.{Wrote};
 ghost use Rattle.sheet.specs.Fields.{trail_of};
-ghost use Rattle.sheet.specs.Facts.{SheetRead};
 ghost use Rattle.differential.specs.Report.{report_means};
 ghost use Rattle.trail_reports.specs.Totals.{SmallReport};
 ghost use Rattle.report_buffer.specs.Buffer.{report_size, field_bytes, report_bytes, sheet_bytes, bytes_needed};
 
 use buffers::put_number;
 use differential::LineReport;
-use sheet::Header;
+use sheet_fields::read_sheet::ReadSheet;
 use sheet_reports::report_at;
 use units::in_sixteenths;
 
@@ -20,16 +19,13 @@ use units::in_sixteenths;
 pub const REPORT_BYTES: usize = 16;
 
 // Writes the reports of all lines of a sheet that was read, one behind the other. Returns the next position.
-pub fn put_reports(sheet: &[u8], header: Header, out: &mut [u8]) -> usize
-    requires { SheetRead sheet.now header × (bytes_needed header.lines ≤ length out.old) }
-    ensures { Wrote 0 (sheet_bytes (trail_of sheet.now)) out.old result out.new }
+pub fn put_reports(sheet: &ReadSheet, out: &mut [u8]) -> usize
+    requires { bytes_needed sheet.now.header.lines ≤ length out.old }
+    ensures { Wrote 0 (sheet_bytes (trail_of sheet.now.bytes.now)) out.old result out.new }
 {
-    let lines = header.lines;
     let mut next = 0;
-    let mut k = 0;
-    while k < lines {
-        next = put_report(out, next, report_at(sheet, header, k));
-        k += 1;
+    for k in 0..sheet.header.lines {
+        next = put_report(out, next, report_at(sheet, k));
     }
     next
 }

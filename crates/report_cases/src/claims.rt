@@ -5,7 +5,6 @@ use crate::one::byte_of;
 use brute_force::agree::agrees;
 use brute_force::count::operand_bits;
 use case_text::parse::number;
-use case_text::print::print;
 use differential::{Differential, Fitting, LineReport, Sixteenths, WholeBits};
 use std::io;
 use std::io::Write;
@@ -55,14 +54,14 @@ fn print_claim(
     count: u64,
 ) -> io::Result<()> {
     if 32 < d.width {
-        return print(out, b" not counted");
+        return write!(out, " not counted");
     }
     let bits = operand_bits(d);
     if 32 < bits {
-        return print(out, b" not counted");
+        return write!(out, " not counted");
     }
     if agrees(d, bits, report, count) {
-        return print(out, b" right");
+        return write!(out, " right");
     }
-    print(out, b" wrong")
+    write!(out, " wrong")
 }

@@ -6,7 +6,6 @@ use crate::one::{byte_of, compare};
 use crate::tally::{Tally, empty, print_tally, with_outcome};
 use brute_force::count::largest;
 use case_text::parse::number;
-use case_text::print::print;
 use differential::Differential;
 use std::io;
 use std::io::Write;
@@ -17,7 +16,7 @@ pub fn run_every(out: &mut impl Write, line: &[u8], from: usize) -> io::Result<(
     let width = number(line, kind.next);
     let n = byte_of(width.value);
     if 8 < n {
-        return print(out, b" not counted");
+        return write!(out, " not counted");
     }
     print_tally(out, every(byte_of(kind.value), n))
 }
@@ -27,13 +26,11 @@ pub fn run_every(out: &mut impl Write, line: &[u8], from: usize) -> io::Result<(
 fn every(kind: u32, n: u32) -> Tally
     requires { n ≤ 8 }
 {
+    let start = parts_start(kind) << (2 * n);
     let end = parts_end(kind, n) << (2 * n);
     let mut tally = empty();
-    let mut next = parts_start(kind) << (2 * n);
-    while next < end {
-        let with = with_outcome(tally, compare(numbered(kind, n, next)));
-        tally = with;
-        next += 1;
+    for next in start..end {
+        tally = with_outcome(tally, compare(numbered(kind, n, next)));
     }
     tally
 }

@@ -1,7 +1,7 @@
 // A differential's line, alone in a sheet.
+use answers::Refusal;
 use buffers::put_number;
-use differential::Differential;
-use report::LineAnswer;
+use differential::{Differential, LineReport};
 use trail::Line;
 
 // The header's block and one block of lines.
@@ -38,16 +38,16 @@ pub fn differential_of(
 }
 
 // What `report::line_report` answers on the sheet whose one line has this differential.
-pub fn report_of(d: Differential) -> LineAnswer {
+pub fn report_of(d: Differential) -> Result<LineReport, Refusal> {
     let mut sheet = [0u8; SHEET_BYTES];
     report_in(&mut sheet, d)
 }
 
-// The same, with the bytes of the sheet, all 0, to write it to.
-fn report_in(sheet: &mut [u8; SHEET_BYTES], d: Differential) -> LineAnswer {
+// The same, with the bytes of the sheet, all 0, to write it to. What sealing refuses, the report refuses too.
+fn report_in(sheet: &mut [u8; SHEET_BYTES], d: Differential) -> Result<LineReport, Refusal> {
     put_header(sheet, d);
     put_record(sheet, d);
-    sealing::seal(sheet);
+    let _ = sealing::seal(sheet);
     report::line_report(sheet, 0)
 }
 

@@ -5,55 +5,52 @@ use answers::Refusal;
 use brute_force::agree::agrees;
 use brute_force::count::{count_fitting, operand_bits};
 use case_text::parse::number;
-use case_text::print::{print, print_number, print_refused};
+use case_text::print::print_refused;
 use differential::{Differential, LineReport};
-use report::LineAnswer;
 use std::io;
 use std::io::Write;
 
-// The report, the number of operand values that fit, and whether the two agree; or that there is no report, or that there
-// are too many operand values to count.
+// The report, the number of operand values that fit, and whether the two agree.
 #[derive(Clone, Copy)]
-pub enum Outcome {
-    Reported(LineReport, u64, bool),
-    Refused(Refusal),
-    Uncounted,
+pub struct Comparison {
+    pub report: LineReport,
+    pub count: u64,
+    pub right: bool,
 }
 
-// Asks for the report, and counts.
-pub fn compare(d: Differential) -> Outcome {
+// Asks for the report, and counts, unless there are too many operand values to count.
+pub fn compare(d: Differential) -> Result<Option<Comparison>, Refusal> {
     let line = d.line;
     if 32 < d.width || d.width < line.amount {
-        return Outcome::Uncounted;
+        return Ok(None);
     }
     let bits = operand_bits(d);
     if 32 < bits {
-        return Outcome::Uncounted;
+        return Ok(None);
     }
-    match report_of(d) {
-        LineAnswer::Given(report) => {
-            let count = count_fitting(d, bits);
-            Outcome::Reported(report, count, agrees(d, bits, report, count))
-        }
-        LineAnswer::Refused(refusal) => Outcome::Refused(refusal),
-    }
+    let report = report_of(d)?;
+    let count = count_fitting(d, bits);
+    Ok(Some(Comparison {
+        report,
+        count,
+        right: agrees(d, bits, report, count),
+    }))
 }
 
 // Answers a case `KIND WIDTH AMOUNT CONSTANT FIRST SECOND DIFFERENCE`: the report, `count` with the count, and the verdict.
 pub fn run_one(out: &mut impl Write, line: &[u8], from: usize) -> io::Result<()> {
     match compare(differential_in(line, from)) {
-        Outcome::Reported(report, count, right) => {
-            print_report(out, report)?;
-            print_number(out, b", count ", count)?;
-            if right {
-                print(out, b", right")
-            } else {
-                print(out, b", wrong")
-            }
-        }
-        Outcome::Refused(refusal) => print_refused(out, refusal.number, refusal.place),
-        Outcome::Uncounted => print(out, b" not counted"),
+        Ok(Some(comparison)) => print_comparison(out, comparison),
+        Ok(None) => write!(out, " not counted"),
+        Err(refusal) => print_refused(out, refusal.number(), refusal.place()),
     }
+}
+
+// The report, the count and the verdict as text.
+fn print_comparison(out: &mut impl Write, comparison: Comparison) -> io::Result<()> {
+    print_report(out, comparison.report)?;
+    let verdict = if comparison.right { "right" } else { "wrong" };
+    write!(out, ", count {}, {verdict}", comparison.count)
 }
 
 // The differential that a line's numbers are.

@@ -1,5 +1,4 @@
 // A report's numbers, as in the report buffer, and as text.
-use case_text::print::{print, print_number};
 use differential::{LineReport, WholeBits};
 use std::io;
 use std::io::Write;
@@ -46,14 +45,11 @@ fn sixteenths_of(bits: WholeBits) -> u64 {
 // A report as ` NAME WEIGHT CHAINS N`.
 pub fn print_report(out: &mut impl Write, report: LineReport) -> io::Result<()> {
     let row = row_of(report);
-    let number = row.number;
-    match number {
-        0 => print(out, b" impossible")?,
-        1 => print(out, b" certain")?,
-        2 => print(out, b" halves")?,
-        _ => print(out, b" counted")?,
-    }
-    print_number(out, b" ", row.weight)?;
-    print_number(out, b" ", row.chains)?;
-    print_number(out, b" ", row.fitting)
+    let name = match row.number {
+        0 => "impossible",
+        1 => "certain",
+        2 => "halves",
+        _ => "counted",
+    };
+    write!(out, " {name} {} {} {}", row.weight, row.chains, row.fitting)
 }

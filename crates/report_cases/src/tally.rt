@@ -1,8 +1,8 @@
 // How the reports of many differentials came out.
-use crate::one::Outcome;
+use crate::one::Comparison;
 use crate::rows::{Row, row_of};
+use answers::Refusal;
 use case_text::checksum::with_number;
-use case_text::print::print_number;
 use differential::LineReport;
 use std::io;
 use std::io::Write;
@@ -35,11 +35,10 @@ pub fn empty() -> Tally {
 }
 
 // The tally with one differential more. One without a report counts as impossible and wrong.
-pub fn with_outcome(tally: Tally, outcome: Outcome) -> Tally {
+pub fn with_outcome(tally: Tally, outcome: Result<Option<Comparison>, Refusal>) -> Tally {
     match outcome {
-        Outcome::Reported(report, _, right) => with_row(tally, row_of(report), right),
-        Outcome::Refused(_) => with_row(tally, row_of(LineReport::Impossible), false),
-        Outcome::Uncounted => with_row(tally, row_of(LineReport::Impossible), false),
+        Ok(Some(comparison)) => with_row(tally, row_of(comparison.report), comparison.right),
+        _ => with_row(tally, row_of(LineReport::Impossible), false),
     }
 }
 
@@ -66,11 +65,18 @@ fn with_numbers(checksum: u64, row: Row) -> u64 {
 
 // The tally as text.
 pub fn print_tally(out: &mut impl Write, tally: Tally) -> io::Result<()> {
-    print_number(out, b" ", tally.differentials)?;
-    print_number(out, b", impossible ", tally.impossible)?;
-    print_number(out, b", wrong ", tally.wrong)?;
-    print_number(out, b", weight ", tally.weight)?;
-    print_number(out, b", chains ", tally.chains)?;
-    print_number(out, b", N ", tally.fitting)?;
-    print_number(out, b", checksum ", tally.checksum)
+    let Tally {
+        differentials,
+        impossible,
+        wrong,
+        weight,
+        chains,
+        fitting,
+        checksum,
+    } = tally;
+    write!(
+        out,
+        " {differentials}, impossible {impossible}, wrong {wrong}, weight {weight}, chains {chains}, \
+         N {fitting}, checksum {checksum}"
+    )
 }

@@ -2,10 +2,8 @@
 ghost use Rattle.std.specs.Prelude.{◌≤◌};
 
 use crate::rows::print_report;
-use answers::Reading;
 use case_text::parse::take_sheet;
-use case_text::print::{print, print_bytes, print_number, print_refused};
-use report::{BufferAnswer, LineAnswer, TotalsAnswer};
+use case_text::print::{print_bytes, print_refused};
 use report_buffer::REPORT_BYTES;
 use std::io;
 use std::io::Write;
@@ -27,10 +25,10 @@ fn print_sealed(out: &mut impl Write, sheet: &mut [u8], sealing: bool) -> io::Re
     print_sheet(out, sheet)
 }
 
-// Seals a sheet, or leaves it as it is.
+// Seals a sheet, or leaves it as it is, as sealing does where it refuses.
 fn seal_if(sealing: bool, sheet: &mut [u8]) {
     if sealing {
-        sealing::seal(sheet);
+        let _ = sealing::seal(sheet);
     }
 }
 
@@ -52,13 +50,13 @@ pub fn lines_of(sheet: &[u8]) -> usize
     ensures { result ≤ 248 }
 {
     match reading::read(sheet) {
-        Reading::Accepted(header) => {
+        Ok(header) => {
             if header.lines <= 248 {
                 return header.lines;
             }
             248
         }
-        Reading::Refused(_) => 0,
+        Err(_) => 0,
     }
 }
 
@@ -67,7 +65,7 @@ pub fn print_lines(out: &mut impl Write, sheet: &[u8], lines: usize) -> io::Resu
     requires { lines ≤ 248 }
 {
     for k in 0..=lines {
-        print_number(out, b"\n  line ", k as u64)?;
+        write!(out, "\n  line {k}")?;
         print_line(out, sheet, k)?;
     }
     Ok(())
@@ -76,22 +74,23 @@ pub fn print_lines(out: &mut impl Write, sheet: &[u8], lines: usize) -> io::Resu
 // The answer of `report::line_report`.
 fn print_line(out: &mut impl Write, sheet: &[u8], k: usize) -> io::Result<()> {
     match report::line_report(sheet, k) {
-        LineAnswer::Given(report) => print_report(out, report),
-        LineAnswer::Refused(refusal) => print_refused(out, refusal.number, refusal.place),
+        Ok(report) => print_report(out, report),
+        Err(refusal) => print_refused(out, refusal.number(), refusal.place()),
     }
 }
 
 // The answer of `report::sheet_totals`: ` IMPOSSIBLE WEIGHT CHAINS`, or a refusal.
 fn print_totals(out: &mut impl Write, sheet: &[u8]) -> io::Result<()> {
-    print(out, b"\n  totals")?;
+    write!(out, "\n  totals")?;
     match report::sheet_totals(sheet) {
-        TotalsAnswer::Given(totals) => {
-            let cost = totals.weight;
-            print_number(out, b" ", totals.impossible as u64)?;
-            print_number(out, b" ", cost.0 as u64)?;
-            print_number(out, b" ", totals.chains as u64)
+        Ok(totals) => {
+            write!(
+                out,
+                " {} {} {}",
+                totals.impossible, totals.weight.0, totals.chains
+            )
         }
-        TotalsAnswer::Refused(refusal) => print_refused(out, refusal.number, refusal.place),
+        Err(refusal) => print_refused(out, refusal.number(), refusal.place()),
     }
 }
 
@@ -100,17 +99,17 @@ fn print_buffer(out: &mut impl Write, sheet: &[u8], length: usize) -> io::Result
     requires { length ≤ 4096 }
 {
     let mut buffer = [0xA5u8; BUFFER_BYTES];
-    print_number(out, b"\n  buffer of ", length as u64)?;
+    write!(out, "\n  buffer of {length}")?;
     print_reports(out, sheet, &mut buffer[0..length])
 }
 
 // The answer of `report::write_reports`, ` written BYTES` or a refusal, and the bytes of the buffer afterwards.
 fn print_reports(out: &mut impl Write, sheet: &[u8], buffer: &mut [u8]) -> io::Result<()> {
     match report::write_reports(sheet, buffer) {
-        BufferAnswer::Written(bytes) => print_number(out, b" written ", bytes as u64)?,
-        BufferAnswer::Refused(refusal) => print_refused(out, refusal.number, refusal.place)?,
+        Ok(bytes) => write!(out, " written {bytes}")?,
+        Err(refusal) => print_refused(out, refusal.number(), refusal.place())?,
     }
-    print(out, b" [")?;
+    write!(out, " [")?;
     print_bytes(out, buffer)?;
-    print(out, b"]")
+    write!(out, "]")
 }

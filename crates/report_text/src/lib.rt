@@ -5,7 +5,6 @@
 ghost use Rattle.std.specs.Prelude.{◌≡◌, [], ◌∷◌, ◌++◌, ◌+◌, ◌≤◌, length};
 ghost use Rattle.buffers.specs.Overwrite.{Wrote};
 ghost use Rattle.decimal.specs.Decimal.{behind};
-ghost use Rattle.sheet.specs.Facts.{SheetRead};
 ghost use Rattle.sheet.specs.Fields.{trail_of};
 ghost use Rattle.differential.specs.Report.{report_means};
 ghost use Rattle.trail_reports.specs.Totals.{SmallReport, sums_of};
@@ -13,11 +12,12 @@ ghost use Rattle.text_parts.specs.Parts.{part_means, room_call};
 ghost use Rattle.report_file.specs.Text.{line_text, totals_text};
 ghost use Rattle.report_file.specs.Parts.{report_part, most_bytes};
 
+use answers::Refusal;
 use decimal::{put_decimal, put_line};
 use differential::LineReport;
-use sheet::Header;
+use sheet_fields::read_sheet::ReadSheet;
 use sheet_reports::{report_at, sum_reports};
-use text_parts::{PartAnswer, put_part};
+use text_parts::put_part;
 use trail_reports::Totals;
 use units::in_sixteenths;
 
@@ -25,25 +25,25 @@ use units::in_sixteenths;
 const PART_BYTES: usize = 64;
 
 // Writes a part of the report where there is room for it. The part is made aside, in as many bytes as no part passes.
-pub fn write_part(sheet: &[u8], header: Header, part: usize, out: &mut [u8]) -> PartAnswer
-    requires { SheetRead sheet.now header × (part ≤ header.lines) }
-    ensures { (part_means result ≡ (room_call (report_part (trail_of sheet.now) part) out.old).answer)
-        × (out.new ≡ (room_call (report_part (trail_of sheet.now) part) out.old).buffer) }
+pub fn write_part(sheet: &ReadSheet, part: usize, out: &mut [u8]) -> Result<usize, Refusal>
+    requires { part ≤ sheet.now.header.lines }
+    ensures { (part_means result ≡ (room_call (report_part (trail_of sheet.now.bytes.now) part) out.old).answer)
+        × (out.new ≡ (room_call (report_part (trail_of sheet.now.bytes.now) part) out.old).buffer) }
 {
     let mut text = [0u8; PART_BYTES];
-    let bytes = put_report_part(sheet, header, part, &mut text);
+    let bytes = put_report_part(sheet, part, &mut text);
     put_part(out, &text[0..bytes])
 }
 
 // Writes a part of the report from the buffer's start: line `part`, or behind the last line the totals.
-fn put_report_part(sheet: &[u8], header: Header, part: usize, out: &mut [u8]) -> usize
-    requires { SheetRead sheet.now header × (part ≤ header.lines) × (most_bytes ≤ length out.old) }
-    ensures { Wrote 0 (report_part (trail_of sheet.now) part) out.old result out.new }
+fn put_report_part(sheet: &ReadSheet, part: usize, out: &mut [u8]) -> usize
+    requires { (part ≤ sheet.now.header.lines) × (most_bytes ≤ length out.old) }
+    ensures { Wrote 0 (report_part (trail_of sheet.now.bytes.now) part) out.old result out.new }
 {
-    if part < header.lines {
-        return put_report(out, part, report_at(sheet, header, part));
+    if part < sheet.header.lines {
+        return put_report(out, part, report_at(sheet, part));
     }
-    put_totals(out, sum_reports(sheet, header))
+    put_totals(out, sum_reports(sheet))
 }
 
 // Writes the line of a report: its number and name, its weight in sixteenths, its chains and N.

@@ -16,7 +16,8 @@ use Rattle.trail.specs.WellFormed.{most_words}
 use Rattle.trail.proofs.Runs.{second_below}
 use Rattle.gate_writer.proofs.Signs.{same, negated}
 use Rattle.run_literals.specs.declared.LineRun.{LineRun}
-use Rattle.run_literals.specs.Run.{signed_literal, difference_in, word_in, CanNegate, ProperRun}
+use Rattle.run_literals.specs.Proper.{ProperRun}
+use Rattle.run_literals.specs.Run.{signed_literal, difference_in, word_in, CanNegate}
 
 -- a literal as the machine holds it
 abbrev pub held : ℤ → ℤ
@@ -62,7 +63,10 @@ module _ (n j d i : ℕ) (hn : n ≤ 64) (hj : j < most_words) (hi : i < n) wher
 
 -- ---- which difference signs which word
 
-module _ {r : LineRun} (proper : ProperRun r) where
+module _ (r : LineRun) where
+  proper : ProperRun r.width r.word r.line r.first r.second r.carries
+  proper = r.proper
+
   pub made_signed : difference_in r r.word ≡ r.made
   made_signed = rw (eq-eqb r.word r.word refl)
 

@@ -1,12 +1,10 @@
 -- What the inner functions that write a line's list cite: one run of a line as the code holds it, and its literals.
-use Rattle.std.specs.Prelude.{ℕ, ◌+◌, ◌-◌, ◌*◌, ◌≤◌, ◌<◌, ◌^◌, ◌≡◌, cond, eqb, ℤ, pos, neg_ℤ}
+use Rattle.std.specs.Prelude.{ℕ, ◌+◌, ◌-◌, ◌*◌, ◌<◌, ◌^◌, cond, eqb, ℤ, pos, neg_ℤ}
 use Rattle.std.specs.Int.Signed.{mag}
 use Rattle.words.specs.Words.{bit}
 use Rattle.trail.specs.Kinds.{kind_of}
-use Rattle.trail.specs.WellFormed.{WellFormedLine, most_words}
 use Rattle.cnf.specs.Gates.{Input}
 use Rattle.clause_lists.specs.Kinds.{Taken, gates, taken_input}
-use Rattle.clause_lists.specs.Limits.{most_variables}
 use Rattle.run_literals.specs.declared.LineRun.{LineRun}
 
 -- bit i of word j of n bits: its variable, negated where the bit of a difference is 1
@@ -33,13 +31,3 @@ taken_in r i = taken_input (taken_at r i) (word_in r r.line.first)
 -- a literal that the machine can negate
 abbrev pub CanNegate : ℤ → Type 0
 CanNegate l = mag l < 2 ^ 31 - 1
-
--- the run is that of a well-formed line of at most 64 bits, its word and the variables before its carries are within a trail's
--- limits, and of a word named twice both differences are the same
-pub record ProperRun (r : LineRun) : Type 0 where
-  pub width_least : 2 ≤ r.width
-  pub width_most : r.width ≤ 64
-  pub word_most : r.word < most_words
-  pub carries_most : r.carries ≤ most_variables r.width
-  pub line_right : WellFormedLine r.width r.word r.line
-  pub alike : r.line.first ≡ r.line.second → r.first ≡ r.second

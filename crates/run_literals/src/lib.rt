@@ -5,6 +5,8 @@
 pub mod kinds;
 pub mod literals;
 
+ghost use Rattle.run_literals.specs.Proper.{ProperRun};
+
 use trail::Line;
 
 // One run of the line that makes `word`. The ones of a difference negate the literals of a word: of the first operand, the second,
@@ -18,4 +20,5 @@ pub struct LineRun {
     pub second: u64,
     pub made: u64,
     pub carries: u32,
+    pub ghost proper: { ProperRun width word line first second carries },
 }

@@ -4,7 +4,7 @@ ghost use Rattle.trail.specs.WellFormed.{most_words};
 ghost use Rattle.cnf.specs.Gates.Input.{literal};
 ghost use Rattle.clause_lists.specs.Kinds.{is_filled};
 ghost use Rattle.clause_lists.specs.Kinds.Taken.{bit_at};
-ghost use Rattle.run_literals.specs.Run.{ProperRun, signed_literal, taken_at, taken_in, word_in, carry_in, CanNegate};
+ghost use Rattle.run_literals.specs.Run.{signed_literal, taken_at, taken_in, word_in, carry_in, CanNegate};
 
 use crate::LineRun;
 
@@ -23,7 +23,7 @@ fn bit_literal(n: u32, word: usize, difference: u64, i: u32) -> i32
 
 // Whether bit i takes no bit of the first operand: a shift fills a zero in there, which is no literal.
 pub fn is_filled(run: LineRun, i: u32) -> bool
-    requires { ProperRun run × (i < run.width) }
+    requires { i < run.width }
     ensures { result ≡ is_filled (taken_at run i) }
 {
     let line = run.line;
@@ -37,7 +37,7 @@ pub fn is_filled(run: LineRun, i: u32) -> bool
 
 // The literal of the first operand's bit that bit i takes.
 pub fn first_literal(run: LineRun, i: u32) -> i32
-    requires { ProperRun run × (i < run.width) × (is_filled (taken_at run i) ≡ false) }
+    requires { (i < run.width) × (is_filled (taken_at run i) ≡ false) }
     ensures { (taken_in run i ≡ literal result) × CanNegate result }
 {
     let line = run.line;
@@ -46,7 +46,7 @@ pub fn first_literal(run: LineRun, i: u32) -> i32
 
 // Which bit that is: a rotation or a shift takes another than bit i.
 fn first_bit(run: LineRun, i: u32) -> u32
-    requires { ProperRun run × (i < run.width) × (is_filled (taken_at run i) ≡ false) }
+    requires { (i < run.width) × (is_filled (taken_at run i) ≡ false) }
     ensures { taken_at run i ≡ bit_at result }
 {
     let line = run.line;
@@ -63,7 +63,7 @@ fn first_bit(run: LineRun, i: u32) -> u32
 
 // Bit i of the second operand.
 pub fn second_literal(run: LineRun, i: u32) -> i32
-    requires { ProperRun run × (i < run.width) }
+    requires { i < run.width }
     ensures { (result ≡ word_in run run.line.second i) × CanNegate result }
 {
     let line = run.line;
@@ -72,7 +72,7 @@ pub fn second_literal(run: LineRun, i: u32) -> i32
 
 // Bit i of the word that the line makes.
 pub fn made_literal(run: LineRun, i: u32) -> i32
-    requires { ProperRun run × (i < run.width) }
+    requires { i < run.width }
     ensures { (result ≡ word_in run run.word i) × CanNegate result }
 {
     bit_literal(run.width, run.word, run.made, i)
@@ -80,7 +80,7 @@ pub fn made_literal(run: LineRun, i: u32) -> i32
 
 // The carry into bit i.
 pub fn carry_literal(run: LineRun, i: u32) -> i32
-    requires { ProperRun run × (i ≤ run.width) }
+    requires { i ≤ run.width }
     ensures { (result ≡ carry_in run i) × CanNegate result }
 {
     (run.carries + i) as i32

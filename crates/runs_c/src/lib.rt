@@ -4,13 +4,14 @@
 
 ghost use Rattle.std.specs.Prelude.{◌≡◌, ◌≤◌, length};
 ghost use Rattle.buffers.specs.Overwrite.{Wrote};
-ghost use Rattle.answers.specs.Answers.{answer_of};
+ghost use Rattle.answers.specs.Answers.{count_means, answer_of};
 ghost use Rattle.sheet_runs.specs.Outcome.{outcome_means};
 ghost use Rattle.runs_c.specs.Calls.{outcome_numbers, outcome_call};
 
-use answers::{Answer, Reading, Refusal, refusal_of};
+use answers::{Answer, Refusal};
 use buffers::put_all;
 use reading::read;
+use sheet_fields::read_sheet::ReadSheet;
 use sheet_runs::RunsOutcome;
 use sheet_runs::lines::run_lines;
 use sheet_runs::start::is_start;
@@ -20,23 +21,26 @@ pub fn two_runs(sheet: &[u8], start: &[u64], out: &mut [u64]) -> Answer
     ensures { (result ≡ answer_of (outcome_call sheet.now start.now out.old).answer)
         × (out.new ≡ (outcome_call sheet.now start.now out.old).buffer) }
 {
-    let reading = read(sheet);
-    let Reading::Accepted(header) = reading else {
-        return Answer::refusing(refusal_of(reading));
-    };
+    Answer::of(write_outcome(sheet, start, out))
+}
+
+// Makes the runs, and writes the outcome's numbers.
+fn write_outcome(sheet: &[u8], start: &[u64], out: &mut [u64]) -> Result<usize, Refusal>
+    ensures { (count_means result ≡ (outcome_call sheet.now start.now out.old).answer)
+        × (out.new ≡ (outcome_call sheet.now start.now out.old).buffer) }
+{
+    let header = read(sheet)?;
     if out.len() < 3 {
-        return Answer::refusing(Refusal {
-            number: 18,
-            place: 0,
-        });
+        return Err(Refusal::Room);
     }
     if !is_start(header, start) {
-        return Answer::refusing(Refusal {
-            number: 19,
-            place: 0,
-        });
+        return Err(Refusal::Start);
     }
-    Answer::counted(put_outcome(out, run_lines(sheet, header, start)))
+    let sheet = ReadSheet {
+        bytes: sheet,
+        header,
+    };
+    Ok(put_outcome(out, run_lines(&sheet, start)))
 }
 
 // Writes the numbers that tell an outcome.

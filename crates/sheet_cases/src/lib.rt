@@ -11,7 +11,6 @@ ghost use Rattle.std.specs.Prelude.{◌≡◌, length};
 
 use crate::print::{print_answer, print_changes};
 use case_text::parse::{find, take_sheet};
-use case_text::print::print;
 use std::io;
 use std::io::Write;
 
@@ -21,7 +20,7 @@ const SHEET_BYTES: usize = 65536;
 // Answers one line: its name, and what its sheet comes to.
 pub fn run_case(out: &mut impl Write, line: &[u8]) -> io::Result<()> {
     let colon = find(line, 0, b':');
-    print(out, &line[0..colon])?;
+    out.write_all(&line[0..colon])?;
     let mut sheet = [0u8; SHEET_BYTES];
     let length = take_sheet(&mut sheet, line, colon + 2);
     let before = sheet;
@@ -34,7 +33,7 @@ fn run_sheet(out: &mut impl Write, sheet: &mut [u8], before: &[u8]) -> io::Resul
 {
     print_answer(out, b": read", reading::read(sheet))?;
     print_sealing(out, b"; seal", sheet, before)?;
-    print(out, b"\n")
+    writeln!(out)
 }
 
 // What sealing answers after a text, and the bytes that it changes. The sheet is given with a copy of its bytes.

@@ -1,22 +1,26 @@
 // What reading and sealing answer, as text.
 ghost use Rattle.std.specs.Prelude.{◌≡◌, length};
 
-use answers::Reading;
-use case_text::print::{print, print_number, print_refused};
+use answers::Refusal;
+use case_text::print::print_refused;
+use sheet::Header;
 use std::io;
 use std::io::Write;
 
 // An answer of reading or sealing after a text: ` accepted BLOCKS WIDTH INPUTS LINES` or ` refused NUMBER PLACE`.
-pub fn print_answer(out: &mut impl Write, before: &[u8], answer: Reading) -> io::Result<()> {
-    print(out, before)?;
+pub fn print_answer(
+    out: &mut impl Write,
+    before: &[u8],
+    answer: Result<Header, Refusal>,
+) -> io::Result<()> {
+    out.write_all(before)?;
     match answer {
-        Reading::Accepted(header) => {
-            print_number(out, b" accepted ", header.blocks as u64)?;
-            print_number(out, b" ", header.width as u64)?;
-            print_number(out, b" ", header.inputs as u64)?;
-            print_number(out, b" ", header.lines as u64)
-        }
-        Reading::Refused(refusal) => print_refused(out, refusal.number, refusal.place),
+        Ok(header) => write!(
+            out,
+            " accepted {} {} {} {}",
+            header.blocks, header.width, header.inputs, header.lines
+        ),
+        Err(refusal) => print_refused(out, refusal.number(), refusal.place()),
     }
 }
 
@@ -33,8 +37,7 @@ pub fn print_changes(out: &mut impl Write, before: &[u8], after: &[u8]) -> io::R
 // The byte at an offset, if it changed.
 fn print_change(out: &mut impl Write, offset: usize, before: u8, after: u8) -> io::Result<()> {
     if before != after {
-        print_number(out, b" ", offset as u64)?;
-        print_number(out, b"=", after as u64)?;
+        write!(out, " {offset}={after}")?;
     }
     Ok(())
 }

@@ -11,7 +11,7 @@ ghost use Rattle.answers.specs.Answers.{reading_means};
 ghost use Rattle.changed_sheets.specs.ChangedSheet.{with_check, changed_sheet};
 ghost use Rattle.changed_sheets.specs.ChangeCall.{change_questions};
 
-use answers::{Reading, refused};
+use answers::Refusal;
 use arithmetic::is_word;
 use block_questions::checks::number_sum;
 use buffers::{put_number, u32_at};
@@ -20,17 +20,17 @@ use sheet_fields::record_position;
 use sheet_fields::sizes::{records_in_block, word_bytes};
 
 // Questions 17 and 14, of a line and a new difference for it.
-pub fn change_stage(header: Header, k: usize, difference: u64) -> Reading
+pub fn change_stage(header: Header, k: usize, difference: u64) -> Result<Header, Refusal>
     requires { Limited header }
     ensures { reading_means result ≡ verdict (change_questions header k difference) header }
 {
     if header.lines <= k {
-        return refused(17, 0);
+        return Err(Refusal::NoSuchLine);
     }
     if !is_word(header.width, difference) {
-        return refused(14, k);
+        return Err(Refusal::Difference(k));
     }
-    Reading::Accepted(header)
+    Ok(header)
 }
 
 // Replaces line k's stated difference, and renews the check of the line's block.

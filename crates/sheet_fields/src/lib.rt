@@ -4,6 +4,7 @@
 
 pub mod lines;
 pub mod predicates;
+pub mod read_sheet;
 pub mod sizes;
 
 ghost use Rattle.std.specs.Prelude.{◌≡◌, ◌+◌, ◌*◌, ◌<◌, ◌≤◌, length};

@@ -2,18 +2,17 @@
 ghost use Rattle.std.specs.Prelude.{◌≡◌, ◌+◌, ◌<◌};
 ghost use Rattle.trail.specs.Trail.{line_at, difference_at};
 ghost use Rattle.sheet.specs.Fields.{trail_of};
-ghost use Rattle.sheet.specs.Facts.{SheetRead};
 
+use crate::read_sheet::ReadSheet;
 use crate::{input_difference, record_of};
-use sheet::Header;
 use trail::Line;
 
 // Line k.
-pub fn line_at(sheet: &[u8], header: Header, k: usize) -> Line
-    requires { SheetRead sheet.now header × (k < header.lines) }
-    ensures { result ≡ line_at (trail_of sheet.now) k }
+pub fn line_at(sheet: &ReadSheet, k: usize) -> Line
+    requires { k < sheet.now.header.lines }
+    ensures { result ≡ line_at (trail_of sheet.now.bytes.now) k }
 {
-    let record = record_of(sheet, header, k);
+    let record = record_of(sheet.bytes, sheet.header, k);
     Line {
         kind: record.kind,
         amount: record.amount,
@@ -25,15 +24,15 @@ pub fn line_at(sheet: &[u8], header: Header, k: usize) -> Line
 }
 
 // The difference of word j: an input's, or the one that its line states.
-pub fn difference_at(sheet: &[u8], header: Header, j: usize) -> u64
-    requires { SheetRead sheet.now header × (j < header.inputs + header.lines) }
-    ensures { result ≡ difference_at (trail_of sheet.now) j }
+pub fn difference_at(sheet: &ReadSheet, j: usize) -> u64
+    requires { j < sheet.now.header.inputs + sheet.now.header.lines }
+    ensures { result ≡ difference_at (trail_of sheet.now.bytes.now) j }
 {
+    let header = sheet.header;
     let inputs = header.inputs;
     if j < inputs {
-        let form = header.form;
-        return input_difference(sheet, j, form);
+        return input_difference(sheet.bytes, j, header.form);
     }
-    let line = line_at(sheet, header, j - inputs);
+    let line = line_at(sheet, j - inputs);
     line.difference
 }

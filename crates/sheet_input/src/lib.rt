@@ -14,6 +14,7 @@ pub fn read_input<R: Read>(input: &mut R, buffer: &mut [u8]) -> io::Result<usize
     ensures front { ReadsFront (R.remaining input.old) (R.remaining input.new) result buffer.new }
 {
     let mut end = 0;
+    // How far a turn goes is known only when the read has been made.
     while end < buffer.len() {
         let more = input.read(&mut buffer[end..])?;
         if more == 0 {

@@ -5,29 +5,28 @@
 
 ghost use Rattle.std.specs.Prelude.{◌≡◌, ◌<◌, ◌^◌};
 ghost use Rattle.sheet.specs.Fields.{trail_of};
-ghost use Rattle.sheet.specs.Facts.{SheetRead};
 ghost use Rattle.differential.specs.Report.{report_means};
 ghost use Rattle.trail_reports.specs.Lines.{differential_of, line_report};
 ghost use Rattle.trail_reports.specs.Totals.{sums_of, sheet_totals, with_report, SmallReport};
 
-use charged_lines::{CHARGED_NUMBERS, MARKS, charge, is_charged};
+use charged_lines::ChargedLines;
 use differential::{Differential, LineReport, Sixteenths};
 use line_reports::report;
-use sheet::Header;
 use sheet_fields::lines::{difference_at, line_at};
+use sheet_fields::read_sheet::ReadSheet;
 use trail_reports::Totals;
 use units::in_sixteenths;
 
 // Line k's differential.
-pub fn differential_at(sheet: &[u8], header: Header, k: usize) -> Differential
-    requires { SheetRead sheet.now header × (k < header.lines) }
-    ensures { result ≡ differential_of (trail_of sheet.now) k }
+pub fn differential_at(sheet: &ReadSheet, k: usize) -> Differential
+    requires { k < sheet.now.header.lines }
+    ensures { result ≡ differential_of (trail_of sheet.now.bytes.now) k }
 {
-    let line = line_at(sheet, header, k);
-    let first = difference_at(sheet, header, line.first);
-    let second = difference_at(sheet, header, line.second);
+    let line = line_at(sheet, k);
+    let first = difference_at(sheet, line.first);
+    let second = difference_at(sheet, line.second);
     Differential {
-        width: header.width,
+        width: sheet.header.width,
         line,
         first,
         second,
@@ -35,38 +34,33 @@ pub fn differential_at(sheet: &[u8], header: Header, k: usize) -> Differential
 }
 
 // The report of line k.
-pub fn report_at(sheet: &[u8], header: Header, k: usize) -> LineReport
-    requires { SheetRead sheet.now header × (k < header.lines) }
-    ensures { report_means result ≡ line_report (trail_of sheet.now) k }
+pub fn report_at(sheet: &ReadSheet, k: usize) -> LineReport
+    requires { k < sheet.now.header.lines }
+    ensures { report_means result ≡ line_report (trail_of sheet.now.bytes.now) k }
 {
-    report(differential_at(sheet, header, k))
+    report(differential_at(sheet, k))
 }
 
 // The totals of all lines. One that costs something adds nothing if an equal line is charged already.
-pub fn sum_reports(sheet: &[u8], header: Header) -> Totals
-    requires { SheetRead sheet.now header }
-    ensures { sums_of result ≡ sheet_totals (trail_of sheet.now) }
+pub fn sum_reports(sheet: &ReadSheet) -> Totals
+    ensures { sums_of result ≡ sheet_totals (trail_of sheet.now.bytes.now) }
 {
-    let lines = header.lines;
-    let mut charged = [0u64; CHARGED_NUMBERS];
-    let mut count = 0;
-    let mut marks = [0u8; MARKS];
+    let lines = sheet.header.lines;
+    let mut charged = ChargedLines::new();
     let mut sums = Totals {
         impossible: 0,
         weight: Sixteenths(0),
         chains: 0,
     };
-    let mut k = 0;
-    while k < lines {
-        let differential = differential_at(sheet, header, k);
+    for k in 0..lines {
+        let differential = differential_at(sheet, k);
         let line = differential.line;
         let report = report(differential);
-        if !is_charged(&charged, count, &marks, line, report) {
-            count = charge(&mut charged, count, &mut marks, line, report);
+        if !charged.holds(line, report) {
+            charged.charge(line, report);
             let next = with_line(sums, report);
             sums = next;
         }
-        k += 1;
     }
     sums
 }

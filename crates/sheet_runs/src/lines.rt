@@ -6,7 +6,6 @@ ghost use Rattle.trail.specs.Trail.{line_at};
 ghost use Rattle.trail.specs.WellFormed.{WellFormedLine, most_words};
 ghost use Rattle.trail.specs.Runs.{word_of_line, is_start};
 ghost use Rattle.sheet.specs.Fields.{trail_of};
-ghost use Rattle.sheet.specs.Facts.{SheetRead};
 ghost use Rattle.sheet_runs.specs.Outcome.{outcome};
 ghost use Rattle.sheet_runs.specs.Outcome.{outcome_means};
 ghost use Rattle.sheet_runs.specs.Facts.{Holds, with_line, NoOnes};
@@ -14,33 +13,32 @@ ghost use Rattle.sheet_runs.specs.Facts.{Holds, with_line, NoOnes};
 use crate::start::begin;
 use crate::{RunsOutcome, Words};
 use line_words::word_made;
-use sheet::Header;
 use sheet_fields::lines::line_at;
+use sheet_fields::read_sheet::ReadSheet;
 use trail::Line;
 
 // Both runs, up to the first line, and in it the lowest bit, where the differences disagree.
-pub fn run_lines(sheet: &[u8], header: Header, start: &[u64]) -> RunsOutcome
-    requires { SheetRead sheet.now header × (is_start (trail_of sheet.now) start.now ≡ true) }
-    ensures { outcome_means result ≡ outcome (trail_of sheet.now) start.now }
+pub fn run_lines(sheet: &ReadSheet, start: &[u64]) -> RunsOutcome
+    requires { is_start (trail_of sheet.now.bytes.now) start.now ≡ true }
+    ensures { outcome_means result ≡ outcome (trail_of sheet.now.bytes.now) start.now }
 {
     let mut first = [0u64; 256];
     let mut second = [0u64; 256];
-    begin(sheet, header, start, &mut first, &mut second);
-    let lines = header.lines;
-    let n = header.width;
+    begin(sheet, start, &mut first, &mut second);
+    let lines = sheet.header.lines;
+    let n = sheet.header.width;
     let mut k = 0;
+    // The label leaves both loops with the answer, which no `for` can give.
     'lines: loop {
         if lines <= k {
             break 'lines RunsOutcome::Follows;
         }
-        let apart = run_line(sheet, header, k, &mut first, &mut second);
+        let apart = run_line(sheet, k, &mut first, &mut second);
         let asked = bits_asked(apart, n);
-        let mut i = 0u32;
-        'bits: while i < asked {
+        'bits: for i in 0..asked {
             if arithmetic::bit(apart, i) {
                 break 'lines RunsOutcome::Disagree(k, i);
             }
-            i += 1;
         }
         k += 1;
     }
@@ -57,18 +55,18 @@ fn bits_asked(apart: u64, n: u32) -> u32
 }
 
 // Makes line k's word in both runs. The answer has a 1 in each bit where the results' difference is not the stated one.
-fn run_line(sheet: &[u8], header: Header, k: usize, first: &mut Words, second: &mut Words) -> u64
-    requires { SheetRead sheet.now header × (k < header.lines) × Holds header.width (header.inputs + k) first.old
-        × Holds header.width (header.inputs + k) second.old }
-    ensures { (first.new ≡ with_line (trail_of sheet.now) k first.old)
-        × (second.new ≡ with_line (trail_of sheet.now) k second.old)
-        × (result ≡ bit_xor (bit_xor (word_of_line (trail_of sheet.now) k first.old)
-        (word_of_line (trail_of sheet.now) k second.old)) (line_at (trail_of sheet.now) k).difference) }
+fn run_line(sheet: &ReadSheet, k: usize, first: &mut Words, second: &mut Words) -> u64
+    requires { (k < sheet.now.header.lines) × Holds sheet.now.header.width (sheet.now.header.inputs + k) first.old
+        × Holds sheet.now.header.width (sheet.now.header.inputs + k) second.old }
+    ensures { (first.new ≡ with_line (trail_of sheet.now.bytes.now) k first.old)
+        × (second.new ≡ with_line (trail_of sheet.now.bytes.now) k second.old)
+        × (result ≡ bit_xor (bit_xor (word_of_line (trail_of sheet.now.bytes.now) k first.old)
+        (word_of_line (trail_of sheet.now.bytes.now) k second.old)) (line_at (trail_of sheet.now.bytes.now) k).difference) }
 {
-    let line = line_at(sheet, header, k);
-    let word = header.inputs + k;
-    let x = make_word(header.width, line, word, first);
-    let y = make_word(header.width, line, word, second);
+    let line = line_at(sheet, k);
+    let word = sheet.header.inputs + k;
+    let x = make_word(sheet.header.width, line, word, first);
+    let y = make_word(sheet.header.width, line, word, second);
     x ^ y ^ line.difference
 }
 

@@ -7,7 +7,7 @@ use lib.ListN.{length, get_or, replicate}
 use Rattle.words.specs.Below.{concat}
 use Rattle.buffers.specs.Overwrite.{Wrote}
 use Rattle.buffers.specs.LittleEndian.{bytes_of}
-use Rattle.buffers.proofs.Appending.{left_start, left_step}
+use Rattle.buffers.proofs.Appending.{left_start, left_step, left_last}
 use Rattle.trail.specs.Trail.{Trail, input_count, line_count}
 use Rattle.sheet.specs.Form.{mark_of, word_bytes, inputs_end}
 use Rattle.sheet.specs.Blocks.{block_bytes}
@@ -15,7 +15,6 @@ use Rattle.sheet.specs.declared.Form.{Form}
 use Rattle.sheet.specs.declared.Form.TheVariants.{Narrow}
 use Rattle.sheet_encoding.specs.Encoding.{header_block}
 use Rattle.sheet_encoding.proofs.Encoding.{header_length}
-use Rattle.sheet_writer.proofs.Pieces.{left_last}
 
 -- the mark as the code writes it
 pub mark_bytes : (f : Form) → bytes_of 4 0x54585241 ≡ mark_of f

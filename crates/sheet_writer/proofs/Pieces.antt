@@ -1,13 +1,13 @@
--- Pieces of one length, written one behind the other: rules for the loops that write them, and the last piece of several.
+-- Pieces of one length, written one behind the other: rules for the loops that write them.
 use Prim.Native.Nat.{ℕ, ◌+◌, ◌*◌, ◌≤◌}
 use native.Mathlib.Numerals.{add-one}
 use native.Mathlib.Omega.{arith}
-use mathlib.Core.Path.{◌≡◌, sym}
-use mathlib.Core.List.{List, append-nil}
+use mathlib.Core.Path.{◌≡◌}
+use mathlib.Core.List.{List}
 use lib.ListN.{length}
 use Rattle.words.specs.Below.{concat}
 use Rattle.buffers.specs.Overwrite.{Wrote}
-use Rattle.buffers.proofs.Appending.{Left, left_take, left_end, wrote_none, wrote_append}
+use Rattle.buffers.proofs.Appending.{wrote_none, wrote_append}
 use Rattle.sheet_encoding.proofs.Encoding.{pieces_length}
 
 module _ (f : ℕ → List ℕ) (m : ℕ) (each : (k : ℕ) → length (f k) ≡ m) {at : ℕ} {l : List ℕ} where
@@ -23,8 +23,3 @@ module _ (f : ℕ → List ℕ) (m : ℕ) (each : (k : ℕ) → length (f k) ≡
       → Wrote at (concat (k + 1) f) l q after
   unfolding concat
   pieces_next k room w v = rw add-one (wrote_append (omega (arith, pieces_length f m k (λ i _. each i))) w v)
-
--- the last of what is left to write
-pub left_last : {at : ℕ} {all l : List ℕ} {p : ℕ} {m rest : List ℕ} {q : ℕ} {k : List ℕ} → Left at all l p rest m → Wrote p rest m q k
-    → Wrote at all l q k
-left_last {rest = rest} h w = left_end (left_take (sym (append-nil rest)) h w)

@@ -6,14 +6,13 @@ use mathlib.Core.List.{List, ◌++◌, append_assoc}
 use lib.ListN.{length, replicate, length-append}
 use Rattle.buffers.specs.Overwrite.{Wrote}
 use Rattle.buffers.specs.LittleEndian.{bytes_of}
-use Rattle.buffers.proofs.Appending.{left_start, left_step}
+use Rattle.buffers.proofs.Appending.{left_start, left_step, left_last}
 use Rattle.buffers.proofs.LittleEndian.{length_bytes_of}
 use Rattle.trail.specs.declared.Line.{Line}
 use Rattle.sheet.specs.Form.{word_bytes, record_bytes}
 use Rattle.sheet.specs.declared.Form.{Form}
 use Rattle.sheet_encoding.specs.Encoding.{record_bytes_of}
 use Rattle.sheet_encoding.proofs.Encoding.{record_length}
-use Rattle.sheet_writer.proofs.Pieces.{left_last}
 
 -- what stands before the constant: kind, amount, operands and the zero field
 abbrev pub operand_bytes : Line → List ℕ

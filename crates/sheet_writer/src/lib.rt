@@ -18,11 +18,7 @@ pub fn put_zeros(out: &mut [u8], at: usize, count: usize) -> usize
     requires { at + count ≤ length out.old }
     ensures { Wrote at (replicate count 0) out.old result out.new }
 {
-    let mut i = 0;
-    while i < count {
-        out[at + i] = 0;
-        i += 1;
-    }
+    out[at..at + count].fill(0);
     at + count
 }
 

@@ -10,7 +10,7 @@ use lib.ListN.{length}
 use Rattle.buffers.specs.Overwrite.{overwrite}
 use Rattle.trail.specs.Trail.{Trail, line_count}
 use Rattle.sheet.specs.Asking.{all_yes, verdict}
-use Rattle.sheet.specs.Asking.Verdict.{accepted, refused}
+use Rattle.sheet.specs.Asking.Verdict.{refused}
 use Rattle.sheet.specs.Fields.{header_of, trail_of}
 use Rattle.sheet.specs.Questions.{questions, room_questions, IsAccepted}
 use Rattle.sheet.specs.declared.Mode.TheVariants.{Read}

@@ -16,11 +16,7 @@ use Rattle.sheet.specs.declared.Header.{Header}
 use Rattle.sheet.specs.declared.Mode.TheVariants.{Read}
 use Rattle.sheet.proofs.Asking.{yes_first, yes_left, yes_right, yes_both, yes_one, yes_verdict, verdict_yes, go_on, stop}
 use Rattle.sheet.proofs.WellFormed.{has_read}
-use Rattle.answers.specs.Answers.{reading_means}
-use Rattle.answers.specs.declared.Reading.{Reading}
-use Rattle.answers.specs.declared.Reading.TheVariants.{Accepted}
 use Rattle.answers.specs.Calls.{writing}
-use Rattle.answers.proofs.Answering.{asked}
 use Rattle.answers.proofs.Calling.{after_yes}
 use Rattle.text_parts.specs.Parts.{part_questions, part_asks, room_call, part_call, RefusedBeforeRoom}
 
@@ -68,10 +64,9 @@ pub record PartRead (s : List ℕ) (part : ℕ) (h : Header) : Type 0 where
   pub most : part ≤ h.lines
   pub passed : all_yes (part_asks s part) ≡ true
 
-pub part_read : (s : List ℕ) (part : ℕ) (r : Reading) (h : Header) → reading_means r ≡ verdict (part_asks s part) (header_of s) → r ≡ Accepted h
-    → PartRead s part h
-part_read s part r h e told =
-    let yes_all = asked (part_asks s part) (header_of s) r h e told in
+pub part_read : (s : List ℕ) (part : ℕ) (h : Header) → accepted h ≡ verdict (part_asks s part) (header_of s) → PartRead s part h
+part_read s part h e =
+    let yes_all = yes_verdict (part_asks s part) (header_of s) h (sym e) in
     let own = yes_right (questions Read s) (part_questions (header_of s) part) yes_all.0 in
     let most = leb-true part (header_of s).lines (yes_first _ 17 0 [] own) in
     record {

@@ -1,22 +1,21 @@
 -- A sheet's texts are written part by part: what a call for one part of a text comes to (document 01, "The programs" and "Questions,
 -- in order").
-use Rattle.std.specs.Prelude.{ℕ, ◌≤◌, ◌<◌, ◌≡◌, List, [], ◌∷◌, ◌++◌, leb, length}
+use Rattle.std.specs.Prelude.{ℕ, ◌≤◌, ◌<◌, ◌≡◌, List, [], ◌∷◌, ◌++◌, leb, length, Result}
 use Rattle.trail.specs.Trail.{Trail, line_count}
 use Rattle.buffers.specs.Overwrite.{overwrite}
 use Rattle.sheet.specs.Asking.{Question, ask, Verdict, verdict}
 use Rattle.sheet.specs.Asking.Verdict.{accepted, refused}
+use Rattle.answers.specs.Answers.{answer_means}
 use Rattle.sheet.specs.Fields.{header_of, trail_of}
 use Rattle.sheet.specs.Questions.{questions, room_questions, IsAccepted}
 use Rattle.sheet.specs.declared.Header.{Header}
 use Rattle.sheet.specs.declared.Mode.TheVariants.{Read}
 use Rattle.answers.specs.Calls.{Call, writing}
-use Rattle.text_parts.specs.declared.PartAnswer.{PartAnswer}
-use Rattle.text_parts.specs.declared.PartAnswer.TheVariants.{Written, Refused}
+use Rattle.answers.specs.declared.Refusal.{Refusal}
 
 -- document 01's number and place for a refusal, the number of bytes written else
-abbrev pub part_means : PartAnswer → Verdict ℕ
-part_means (Written n) = accepted n
-part_means (Refused r) = refused r.number r.place
+abbrev pub part_means : Result ℕ Refusal → Verdict ℕ
+part_means = answer_means (λ n. n)
 
 -- A text has a part for each line and one more, from 0 on. Is the part at most L? 17
 abbrev pub part_questions : Header → ℕ → List Question

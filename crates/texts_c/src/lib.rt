@@ -4,19 +4,17 @@
 
 ghost use Rattle.std.specs.Prelude.{◌≡◌};
 ghost use Rattle.answers.specs.Answers.{answer_of};
-ghost use Rattle.text_parts.specs.Parts.{part_means};
 ghost use Rattle.clause_file.specs.Parts.{clause_text_call};
 ghost use Rattle.report_file.specs.Parts.{report_text_call};
 
 use answers::Answer;
-use text_parts::PartAnswer;
 
 // Writes a part of the clause file. Counts bytes.
 pub fn clause_text(sheet: &[u8], part: u64, out: &mut [u8]) -> Answer
     ensures { (result ≡ answer_of (clause_text_call sheet.now part out.old).answer)
         × (out.new ≡ (clause_text_call sheet.now part out.old).buffer) }
 {
-    answer_of(texts::clause_text(sheet, part as usize, out))
+    Answer::of(texts::clause_text(sheet, part as usize, out))
 }
 
 // Writes a part of the report. Counts bytes.
@@ -24,15 +22,5 @@ pub fn report_text(sheet: &[u8], part: u64, out: &mut [u8]) -> Answer
     ensures { (result ≡ answer_of (report_text_call sheet.now part out.old).answer)
         × (out.new ≡ (report_text_call sheet.now part out.old).buffer) }
 {
-    answer_of(texts::report_text(sheet, part as usize, out))
-}
-
-// The struct for an answer.
-fn answer_of(answer: PartAnswer) -> Answer
-    ensures { result ≡ answer_of (part_means answer) }
-{
-    match answer {
-        PartAnswer::Written(bytes) => Answer::counted(bytes),
-        PartAnswer::Refused(refusal) => Answer::refusing(refusal),
-    }
+    Answer::of(texts::report_text(sheet, part as usize, out))
 }

@@ -4,7 +4,6 @@
 
 #![tactic(auto)]
 
-use answers::Refusal;
 use tablegull::{
     tablegull_change, tablegull_change_all, tablegull_change_indexed, tablegull_clause_counts,
     tablegull_clause_text, tablegull_index, tablegull_join, tablegull_line_clauses,
@@ -20,32 +19,32 @@ pub fn in_rattle(
     bytes: &mut [u8],
     numbers: &mut [i32],
 ) {
-    reading::read(sheet);
-    report::line_report(sheet, number);
-    report::sheet_totals(sheet);
-    report::write_reports(sheet, bytes);
-    runs::two_runs(sheet, words);
-    clauses::clause_counts(sheet);
-    clauses::line_list(sheet, number, numbers);
-    texts::clause_text(sheet, number, bytes);
-    texts::report_text(sheet, number, bytes);
-    joining::join(sheet, sheet, words, bytes);
-    sealing::seal(sheet);
+    let _ = reading::read(sheet);
+    let _ = report::line_report(sheet, number);
+    let _ = report::sheet_totals(sheet);
+    let _ = report::write_reports(sheet, bytes);
+    let _ = runs::two_runs(sheet, words);
+    let _ = clauses::clause_counts(sheet);
+    let _ = clauses::line_list(sheet, number, numbers);
+    let _ = texts::clause_text(sheet, number, bytes);
+    let _ = texts::report_text(sheet, number, bytes);
+    let _ = joining::join(sheet, sheet, words, bytes);
+    let _ = sealing::seal(sheet);
 }
 
-pub fn in_rattle_refused(refusal: Refusal, out: &mut [u8; 64]) {
-    texts::refusal_text(refusal, out);
+pub fn in_rattle_refused(number: u32, place: u64, out: &mut [u8; 64]) {
+    texts::refusal_text(number, place, out);
 }
 
 // Those on a line's stated difference.
 pub fn in_rattle_changed(sheet: &mut [u8], line: usize, difference: u64, out: &mut [u8]) {
-    changing::trial(sheet, line, difference, out);
-    changing::change(sheet, line, difference);
+    let _ = changing::trial(sheet, line, difference, out);
+    let _ = changing::change(sheet, line, difference);
 }
 
 // The one on a list of them.
 pub fn in_rattle_listed(sheet: &mut [u8], pairs: &[u64], replies: &mut [u8]) {
-    changing_all::change_all(sheet, pairs, replies);
+    let _ = changing_all::change_all(sheet, pairs, replies);
 }
 
 // Those on an index, and on a report beside it.
@@ -56,8 +55,8 @@ pub fn in_rattle_indexed(
     line: usize,
     difference: u64,
 ) {
-    indexing::index(sheet, index);
-    changing_indexed::change_indexed(sheet, index, report, line, difference);
+    let _ = indexing::index(sheet, index);
+    let _ = changing_indexed::change_indexed(sheet, index, report, line, difference);
 }
 
 // The calls for C on a sheet's bytes.

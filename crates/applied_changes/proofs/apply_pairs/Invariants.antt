@@ -1,5 +1,4 @@
 -- The invariant: the first i pairs are applied or skipped, and replied to.
-use Prim.Native.Nat.{◌-◌, ◌≤◌}
 use mathlib.Core.Path.{◌≡◌}
 use lib.ListN.{length}
 use Rattle.applied_changes.proofs.Replying.{Replied}
@@ -7,7 +6,4 @@ use Rattle.applied_changes.proofs.apply_pairs.Given as goal
 
 abbrev pub invariant-loop-i : goal.invariant-loop-i
 invariant-loop-i l =
-    (l.i ≤ l.count) × (length l.sheet ≡ length l.initial.sheet) × (length l.replies ≡ length l.initial.replies) × Replied l.initial.sheet l.pairs l.initial.replies l.i l.sheet l.replies
-
-abbrev pub decreases-loop-i : goal.decreases-loop-i
-decreases-loop-i l = l.count - l.i
+    (length l.sheet ≡ length l.initial.sheet) × (length l.replies ≡ length l.initial.replies) × Replied l.initial.sheet l.pairs l.initial.replies l.i l.sheet l.replies

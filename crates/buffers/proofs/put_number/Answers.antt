@@ -1,12 +1,11 @@
 use mathlib.Core.Path.{◌≡◌}
-use mathlib.Core.List.{[], ◌∷◌, ◌++◌}
+use mathlib.Core.List.{List, [], ◌∷◌, ◌++◌}
 use Prim.Native.Nat.{ℕ, suc, ◌+◌, ◌-◌, ◌≤◌, ◌<◌, ◌/◌, ◌%◌}
-use native.Mathlib.Nat.{add-zero, add_assoc, sub-zero, sub-eq-zero_of_le}
+use native.Mathlib.Nat.{sub-zero, sub-eq-zero_of_le}
 use native.Mathlib.Omega.{arith}
-use borrow.Author.Rules.{rules}
-use lib.ListN.{length}
+use lib.ListN.{length, take, drop, length-take, length-drop}
 use Rattle.buffers.specs.LittleEndian.{bytes_of}
-use Rattle.buffers.proofs.Appending.{left_start, left_take, left_done, wrote_set}
+use Rattle.buffers.proofs.Appending.{left_start, left_take, left_whole, wrote_set, wrote_part}
 use Rattle.buffers.proofs.LittleEndian.{length_bytes_of}
 use Rattle.buffers.proofs.put_number.Goals as goal
 
@@ -21,17 +20,26 @@ no_byte : (k i v : ℕ) → k ≤ i → bytes_of (k - i) v ≡ []
 unfolding bytes_of
 no_byte k i v h = rw (sub-eq-zero_of_le h)
 
-pub loop-i-init : goal.loop-i-init
-loop-i-init c = (search rules, rw (add-zero, sub-zero) (left_start _ _ _ (rw length_bytes_of c.requires)))
+-- the bytes are as many as the part's
+part_length : (at k v : ℕ) (s : List ℕ) → at + k ≤ length s → length (bytes_of k v) ≡ length (take (at + k - at) (drop at s))
+part_length at k v s h = rw length_bytes_of (simp (length-take, length-drop) (omega arith))
 
-pub loop-i-preserved : goal.loop-i-preserved
-loop-i-preserved c =
-    let here = c.args.at + c.loop-i.i in
-    let room : here < length c.loop-i.s = search rules in
-    let more : c.loop-i.i < c.args.k = search rules in
-    (search rules, rw (← add_assoc) (left_take (next_byte _ _ _ more) c.loop-i.invariant.1 (wrote_set here _ _ room)))
+pub loop-byte-init : goal.loop-byte-init
+loop-byte-init c =
+    let a = c.args in
+    rw sub-zero (left_start _ _ _ (omega (arith, part_length a.at a.k a.number a.s.now c.requires)))
+
+pub loop-byte-preserved : goal.loop-byte-preserved
+loop-byte-preserved c =
+    let a = c.args in
+    let h = c.loop-byte in
+    let more : h.byte-index < a.k = omega (arith, length_bytes_of a.k a.number, part_length a.at a.k a.number a.s.now c.requires) in
+    left_take (next_byte _ _ _ more) h.invariant (wrote_set h.byte-index _ _ (omega arith))
 
 pub returns : goal.returns
 returns c =
-    let all : c.loop-i.i ≡ c.args.k = search rules in
-    rw all at (left_done (no_byte _ _ _ (search rules)) c.loop-i.invariant.1)
+    let a = c.args in
+    let long = part_length a.at a.k a.number a.s.now c.requires in
+    let all : a.k ≤ c.loop-byte.byte-index = omega (arith, long, length_bytes_of a.k a.number) in
+    wrote_part a.at (a.at + a.k - a.at) (omega (arith, length_bytes_of a.k a.number)) (omega arith)
+    (left_whole long (no_byte _ _ _ all) c.loop-byte.invariant)

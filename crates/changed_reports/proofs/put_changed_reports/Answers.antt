@@ -1,7 +1,5 @@
-use Prim.Native.Nat.{◌-◌}
 use native.Mathlib.Omega.{arith}
 use mathlib.Core.Path.{◌≡◌, refl, ap, ◌∙◌, subst}
-use borrow.Author.Rules.{rules}
 use Rattle.buffers.specs.Overwrite.{Wrote}
 use Rattle.trail.specs.Trail.{line_count}
 use Rattle.trail.specs.Changing.{with_difference}
@@ -17,21 +15,21 @@ use Rattle.changed_reports.proofs.put_changed_reports.Goals as goal
 pub loop-i-init : goal.loop-i-init
 loop-i-init c =
     let a = c.args in
-    (search rules, refl, reports_none (line_report (with_difference (trail_of a.sheet.now) a.k a.difference)) _)
+    (refl, reports_none (line_report (with_difference (trail_of a.sheet.now.bytes.now) a.k a.difference)) _)
 
 pub report-requires : goal.report-requires
 report-requires c =
     let a = c.args in
-    changed_asks c.requires.0 a.k a.difference c.requires.1 c.requires.2 c.loop-i.i (omega arith) c.changed_differential-differential.ensures
+    changed_asks c.args.sheet.now.read a.k a.difference c.requires.0 c.requires.1 c.loop-i.i (omega arith) c.changed_differential-differential.ensures
 
 pub put_report-next-requires : goal.put_report-next-requires
 unfolding line_report
 put_report-next-requires c =
     let a = c.args in
     let h = c.loop-i in
-    let here = reports_place (line_report (with_difference (trail_of a.sheet.now) a.k a.difference)) h.i h.invariant.2 in (
+    let here = reports_place (line_report (with_difference (trail_of a.sheet.now.bytes.now) a.k a.difference)) h.i h.invariant.1 in (
       omega arith,
-      changed_small c.requires.0 a.k a.difference c.requires.1 c.requires.2 h.i (omega arith)
+      changed_small c.args.sheet.now.read a.k a.difference c.requires.0 c.requires.1 h.i (omega arith)
           (c.report.ensures ∙ ap report_of c.changed_differential-differential.ensures),
     )
 
@@ -43,13 +41,13 @@ loop-i-preserved c =
     let put = c.put_report-next in
     let is = c.report.ensures ∙ ap report_of c.changed_differential-differential.ensures in
     let written = subst (λ (r : Report). Wrote h.next (report_bytes r) h.out put.result put.new.out) is put.ensures in
-    (search rules, put.auto.out ∙ h.invariant.1, reports_next (line_report (with_difference (trail_of a.sheet.now) a.k a.difference)) h.i (omega arith) h.invariant.2 written)
+    (put.auto.out ∙ h.invariant.0, reports_next (line_report (with_difference (trail_of a.sheet.now.bytes.now) a.k a.difference)) h.i (omega arith) h.invariant.1 written)
 
 pub returns : goal.returns
 unfolding sheet_bytes
 returns c =
     let h = c.loop-i in
     let a = c.args in
-    let t = with_difference (trail_of a.sheet.now) a.k a.difference in
-    let e : h.i ≡ line_count t = omega (arith, changed_count (trail_of a.sheet.now) a.k a.difference, c.requires.0.lines) in
-    rw e at h.invariant.2
+    let t = with_difference (trail_of a.sheet.now.bytes.now) a.k a.difference in
+    let e : h.i ≡ line_count t = omega (arith, changed_count (trail_of a.sheet.now.bytes.now) a.k a.difference, c.args.sheet.now.read.lines) in
+    rw e at h.invariant.1

@@ -1,5 +1,4 @@
 -- The invariant: the reports of the changed trail's lines that are passed are written.
-use Prim.Native.Nat.{◌-◌, ◌≤◌}
 use mathlib.Core.Path.{◌≡◌}
 use lib.ListN.{length}
 use Rattle.buffers.specs.Overwrite.{Wrote}
@@ -12,8 +11,5 @@ use Rattle.changed_reports.proofs.put_changed_reports.Given as goal
 
 abbrev pub invariant-loop-i : goal.invariant-loop-i
 invariant-loop-i l =
-    (l.i ≤ l.lines) × (length l.out ≡ length l.initial.out)
-    × Wrote 0 (concat l.i (λ j. report_bytes (line_report (with_difference (trail_of l.sheet) l.k l.difference) j))) l.initial.out l.next l.out
-
-abbrev pub decreases-loop-i : goal.decreases-loop-i
-decreases-loop-i l = l.lines - l.i
+    (length l.out ≡ length l.initial.out)
+    × Wrote 0 (concat l.i (λ j. report_bytes (line_report (with_difference (trail_of l.sheet.bytes.now) l.k l.difference) j))) l.initial.out l.next l.out

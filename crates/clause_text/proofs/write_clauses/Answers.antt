@@ -8,23 +8,23 @@ use Rattle.clause_text.proofs.write_clauses.Goals as goal
 
 pub put_line-count-requires : goal.put_line-count-requires
 put_line-count-requires c =
-    (c.requires.0, c.requires.1, omega (arith, list_most c.requires.0 c.args.k c.requires.1))
+    (c.requires, omega (arith, list_most c.args.sheet.now.read c.args.k c.requires))
 
 pub write_list-requires : goal.write_list-requires
 write_list-requires c =
-    let most = list_most c.requires.0 c.args.k c.requires.1 in
+    let most = list_most c.args.sheet.now.read c.args.k c.requires in
     rw (wrote_taken (omega arith) c.put_line-count.ensures)
-    (list_digits c.requires.0 c.args.k c.requires.1, omega arith)
+    (list_digits c.args.sheet.now.read c.args.k c.requires, omega arith)
 
 pub returns : goal.returns
 returns c =
-    let most = list_most c.requires.0 c.args.k c.requires.1 in
+    let most = list_most c.args.sheet.now.read c.args.k c.requires in
     rw (
-      ← list_text (trail_of c.args.sheet.now) c.args.k,
+      ← list_text (trail_of c.args.sheet.now.bytes.now) c.args.k,
       ← wrote_taken (omega arith) c.put_line-count.ensures,
     )
     c.write_list.ensures
 
 pub slice_bounds-write_list-end : goal.slice_bounds-write_list-end
 slice_bounds-write_list-end c =
-    omega (arith, list_most c.requires.0 c.args.k c.requires.1, c.put_line-count.ensures.next)
+    omega (arith, list_most c.args.sheet.now.read c.args.k c.requires, c.put_line-count.ensures.next)

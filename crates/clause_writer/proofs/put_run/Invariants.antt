@@ -1,7 +1,4 @@
 -- The loop's invariant: the clauses of the bits passed stand in the buffer, one behind the other.
-use Prim.Native.Nat.{◌-◌, ◌≤◌}
-use mathlib.Core.Path.{◌≡◌}
-use lib.ListN.{length}
 use Rattle.words.specs.Below.{concat}
 use Rattle.buffers.specs.Overwrite.{Wrote}
 use Rattle.cnf.specs.Formulas.{numbers}
@@ -9,7 +6,4 @@ use Rattle.clause_writer.specs.Writing.{clauses_of_bit}
 use Rattle.clause_writer.proofs.put_run.Given as goal
 
 abbrev pub invariant-loop-i : goal.invariant-loop-i
-invariant-loop-i l = (l.i ≤ l.n) × (length l.out ≡ length l.initial.out) × Wrote l.at (numbers (concat l.i (clauses_of_bit l.run))) l.initial.out l.next l.out
-
-abbrev pub decreases-loop-i : goal.decreases-loop-i
-decreases-loop-i l = l.n - l.i
+invariant-loop-i l = Wrote l.at (numbers (concat l.i (clauses_of_bit l.run))) l.initial.out l.next l.out

@@ -10,5 +10,5 @@ bounds-out-at-2 c = rw length-set (omega arith)
 pub returns : goal.returns
 returns c =
     let a = c.args in
-    let table = c.requires.0 in
+    let table = a.table.now.filled in
     pair_wrote a.at a.value a.out.now (omega arith) (table.tens a.value (omega arith)) (table.ones a.value (omega arith))

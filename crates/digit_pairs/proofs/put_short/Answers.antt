@@ -22,7 +22,7 @@ returns-then-value-lt10 c =
 pub put_pair-requires : goal.put_pair-requires
 put_pair-requires c =
     let a = c.args in
-    (c.requires.0, omega arith, omega (arith, ap length (both_digits a.value (omega arith) (omega arith))))
+    (omega arith, omega (arith, ap length (both_digits a.value (omega arith) (omega arith))))
 
 pub returns : goal.returns
 returns c =

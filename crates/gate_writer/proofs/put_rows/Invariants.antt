@@ -1,7 +1,6 @@
--- The invariant: the clauses of the inputs' rows passed are written. The measure is how many rows are left.
+-- The invariant: the clauses of the inputs' rows passed are written.
 use mathlib.Core.Path.{◌≡◌}
 use Prim.Native.Nat.{◌-◌, ◌^◌, ◌≤◌}
-use lib.ListN.{length}
 use Rattle.words.specs.Below.{concat}
 use Rattle.buffers.specs.Overwrite.{Wrote}
 use Rattle.cnf.specs.Formulas.{numbers}
@@ -10,8 +9,4 @@ use Rattle.gate_writer.proofs.put_rows.Given as goal
 
 abbrev pub invariant-loop-inputs : goal.invariant-loop-inputs
 invariant-loop-inputs l =
-    (l.inputs ≤ l.rows) × (l.rows ≡ 2 ^ (l.count - 1)) × (l.rows ≤ 8) × (length l.out ≡ length l.initial.out)
-    × Wrote l.at (numbers (concat l.inputs (wrong_clause l.lits l.table))) l.initial.out l.next l.out
-
-abbrev pub decreases-loop-inputs : goal.decreases-loop-inputs
-decreases-loop-inputs l = l.rows - l.inputs
+    (l.rows ≡ 2 ^ (l.count - 1)) × (l.rows ≤ 8) × Wrote l.at (numbers (concat l.inputs (wrong_clause l.lits l.table))) l.initial.out l.next l.out

@@ -1,5 +1,4 @@
 -- The invariant: every line stands, and the counts of the words passed do.
-use Prim.Native.Nat.{◌-◌, ◌≤◌}
 use mathlib.Core.Path.{◌≡◌}
 use lib.ListN.{length}
 use Rattle.sheet.specs.Fields.{trail_of}
@@ -10,8 +9,5 @@ use Rattle.index_writer.proofs.put_index.Given as goal
 
 abbrev pub invariant-loop-j : goal.invariant-loop-j
 invariant-loop-j l =
-    (l.j ≤ l.words) × (length l.out ≡ length l.initial.out) × (l.at ≡ part_start (trail_of l.sheet) l.j)
-    × Stands (trail_of l.sheet) l.j (λ x. length (users (trail_of l.sheet) x)) l.initial.out l.out
-
-abbrev pub decreases-loop-j : goal.decreases-loop-j
-decreases-loop-j l = l.words - l.j
+    (length l.out ≡ length l.initial.out) × (l.at ≡ part_start (trail_of l.sheet.bytes.now) l.j)
+    × Stands (trail_of l.sheet.bytes.now) l.j (λ x. length (users (trail_of l.sheet.bytes.now) x)) l.initial.out l.out

@@ -1,5 +1,4 @@
 -- The invariant: the lines passed stand in the parts of the words that they name.
-use Prim.Native.Nat.{◌-◌, ◌≤◌}
 use mathlib.Core.Path.{◌≡◌}
 use lib.ListN.{length}
 use Rattle.sheet.specs.Fields.{trail_of}
@@ -8,8 +7,5 @@ use Rattle.index_writer.proofs.put_users.Given as goal
 
 abbrev pub invariant-loop-i : goal.invariant-loop-i
 invariant-loop-i l =
-    (l.i ≤ l.lines) × (length l.out ≡ length l.initial.out)
-    × Placed (trail_of l.sheet) (users_before (trail_of l.sheet) l.i) l.initial.out l.last l.out
-
-abbrev pub decreases-loop-i : goal.decreases-loop-i
-decreases-loop-i l = l.lines - l.i
+    (length l.out ≡ length l.initial.out)
+    × Placed (trail_of l.sheet.bytes.now) (users_before (trail_of l.sheet.bytes.now) l.i) l.initial.out l.last l.out

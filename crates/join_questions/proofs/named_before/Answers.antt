@@ -1,34 +1,22 @@
-use Prim.Native.Nat.{ℕ, ◌-◌}
+-- The names before name j, from the first on.
+use Prim.Native.Nat.{ℕ, zero, suc, ◌≤◌}
 use native.Mathlib.Omega.{arith}
-use mathlib.Core.Path.{◌≡◌, sym, ap, ◌∙◌}
-use mathlib.Core.Bool.{Bool}
+use mathlib.Core.Path.{◌≡◌, refl, sym, ap, ◌∙◌}
+use mathlib.Core.Bool.{Bool, ◌||◌}
 use mathlib.Core.List.{List}
-use borrow.Author.Rules.{rules}
-use lib.Dec.{eqb}
+use lib.ListN.{length, get_or, take}
+use Rattle.std.specs.List.{list_any}
+use Rattle.std.proofs.lemmas.List.Folds.{list_any_more}
+use Rattle.std.proofs.Common.{add-one, nat_eq}
 use Rattle.words.specs.Below.{any}
-use Rattle.words.proofs.Below.{any_none, any_next, any_found}
-use Rattle.trail.specs.Joining.{named}
-use Rattle.sheet.proofs.Testing.{facts}
 use Rattle.join_questions.proofs.named_before.Goals as goal
 
-abbrev same : List ℕ → ℕ → ℕ → Bool
-same names j i = eqb (named names i) (named names j)
-
-pub loop-i-init : goal.loop-i-init
-loop-i-init c = (search rules, any_none _)
-
-pub returns-then-names-i : goal.returns-then-names-i
-returns-then-names-i c =
-    let a = c.args in
-    sym (any_found a.j (same a.names.now a.j) c.loop-i.i (search rules) (search facts))
-
-pub loop-i-preserved : goal.loop-i-preserved
-loop-i-preserved c =
-    let a = c.args in
-    (search rules, any_next c.loop-i.i (same a.names.now a.j) c.loop-i.invariant.1 (search facts))
+taken : (p : ℕ → Bool) (xs : List ℕ) (n : ℕ) → n ≤ length xs → list_any p (take n xs) ≡ any n (λ i. p (get_or xs i 0))
+unfolding any
+taken p xs zero h = refl
+taken p xs (suc n) h = ap (λ (m : ℕ). list_any p (take m xs)) (sym (add-one n)) ∙ list_any_more p xs n 0 (omega arith) ∙ ap (λ (t : Bool). t || p (get_or xs n 0)) (taken p xs n (omega arith))
 
 pub returns : goal.returns
 returns c =
     let a = c.args in
-    let end : c.loop-i.i ≡ a.j = omega arith in
-    sym c.loop-i.invariant.1 ∙ ap (λ (i : ℕ). any i (same a.names.now a.j)) end
+    c.contains.ensures.value ∙ taken (λ y. nat_eq y (get_or a.names.now a.j 0)) a.names.now a.j (omega arith)

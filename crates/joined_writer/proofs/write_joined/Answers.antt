@@ -15,31 +15,20 @@ use Rattle.joined_writer.proofs.write_joined.Goals as goal
 pub put_line_blocks-requires : goal.put_line_blocks-requires
 put_line_blocks-requires c =
     let a = c.args in
-    let f = a.a.form in
-    let t = joined_trail a.first.now a.second.now a.names.now in
-    let header = c.put_header-lines_at.ensures t c.requires.0.width refl (joined_lines c.requires.0 c.requires.1 a.names.now) in
-    let few = blocks_enough f (a.a.lines + a.b.lines) c.requires.3 in
-    (c.requires.0, c.requires.1, c.requires.2, omega (arith, blocks_fit f), omega (arith, header.next, header_length f t))
-
-pub overflow_add-blocks : goal.overflow_add-blocks
-overflow_add-blocks c =
-    let a = c.args in
-    omega (arith, blocks_enough a.a.form (a.a.lines + a.b.lines) c.requires.3, blocks_fit a.a.form)
-
-pub write_checks-requires : goal.write_checks-requires
-write_checks-requires c =
-    let a = c.args in
-    let few = blocks_enough a.a.form (a.a.lines + a.b.lines) c.requires.3 in
-    (omega arith, omega (arith, blocks_fit a.a.form))
+    let f = a.first.now.header.form in
+    let t = joined_trail a.first.now.bytes.now a.second.now.bytes.now a.names.now in
+    let header = c.put_header-lines_at.ensures t a.first.now.read.width refl (joined_lines a.first.now.read a.second.now.read a.names.now) in
+    let few = blocks_enough f (a.first.now.header.lines + a.second.now.header.lines) c.requires.1 in
+    (c.requires.0, omega (arith, blocks_fit f), omega (arith, header.next, header_length f t))
 
 pub returns : goal.returns
 unfolding joined_sheet
 returns c =
     let a = c.args in
-    let f = a.a.form in
-    let t = joined_trail a.first.now a.second.now a.names.now in
-    let lines = joined_lines c.requires.0 c.requires.1 a.names.now in
+    let f = a.first.now.header.form in
+    let t = joined_trail a.first.now.bytes.now a.second.now.bytes.now a.names.now in
+    let lines = joined_lines a.first.now.read a.second.now.read a.names.now in
     let count = c.line_blocks-blocks.ensures ∙ ap (line_blocks f) (sym lines) in
-    let header = c.put_header-lines_at.ensures t c.requires.0.width refl lines in
-    sheet_written f t (c.requires.4 ∙ ap (λ (n : ℕ). 512 * (1 + line_blocks f n)) (sym lines)) header (rw count at c.put_line_blocks.ensures) (rw count at c.write_checks.ensures)
-    ∙ ap (λ (h : Header). sheet_of h.form t) (sym c.requires.0.parts)
+    let header = c.put_header-lines_at.ensures t a.first.now.read.width refl lines in
+    sheet_written f t (c.requires.2 ∙ ap (λ (n : ℕ). 512 * (1 + line_blocks f n)) (sym lines)) header (rw count at c.put_line_blocks.ensures) (rw count at c.write_checks.ensures)
+    ∙ ap (λ (h : Header). sheet_of h.form t) (sym a.first.now.read.parts)

@@ -6,23 +6,21 @@ use Rattle.line_clauses.proofs.put_line.Goals as goal
 
 pub put_run-after-requires : goal.put_run-after-requires
 put_run-after-requires c =
-    let t = trail_of c.args.sheet.now in
-    (c.first_run.ensures.0, room_first t c.args.k c.args.at c.args.out.now c.requires.2 c.first_run.ensures.1 refl)
+    let t = trail_of c.args.sheet.now.bytes.now in
+    room_first t c.args.k c.args.at c.args.out.now c.requires.1 c.first_run.ensures refl
 
 pub put_run-requires : goal.put_run-requires
 put_run-requires c =
-    let t = trail_of c.args.sheet.now in
+    let t = trail_of c.args.sheet.now.bytes.now in
     let first = c.first_run.ensures in
-    let wrote = c.put_run-after.ensures in (
-      c.second_run.ensures.0,
-      room_second t c.args.k c.args.at c.args.out.now c.requires.2 first.1 c.second_run.ensures.1 wrote,
-    )
+    let wrote = c.put_run-after.ensures in
+    room_second t c.args.k c.args.at c.args.out.now c.requires.1 first c.second_run.ensures wrote
 
 pub returns : goal.returns
 returns c =
-    let t = trail_of c.args.sheet.now in
+    let t = trail_of c.args.sheet.now.bytes.now in
     let first = c.first_run.ensures in
     let wrote = c.put_run-after.ensures in
     let second = c.second_run.ensures in
-    list_written t c.args.k c.args.at c.args.out.now c.requires.2 first.1 second.1 wrote
+    list_written t c.args.k c.args.at c.args.out.now c.requires.1 first second wrote
     c.put_run.ensures

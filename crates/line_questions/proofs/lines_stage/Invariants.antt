@@ -8,7 +8,4 @@ use Rattle.sheet.specs.Questions.{line_questions}
 use Rattle.line_questions.proofs.lines_stage.Given as goal
 
 abbrev pub invariant-loop-k : goal.invariant-loop-k
-invariant-loop-k l = (l.k ≤ l.lines) × (all_yes (concat l.k (line_questions l.mode l.s l.header)) ≡ true)
-
-abbrev pub decreases-loop-k : goal.decreases-loop-k
-decreases-loop-k l = l.lines - l.k
+invariant-loop-k l = all_yes (concat l.k (line_questions l.mode l.s l.header)) ≡ true

@@ -1,5 +1,5 @@
 -- The invariant: the line's numbers stand at none of the places passed.
-use Prim.Native.Nat.{ℕ, ◌*◌, ◌-◌, ◌≤◌}
+use Prim.Native.Nat.{ℕ, ◌*◌}
 use mathlib.Core.Path.{◌≡◌}
 use mathlib.Core.Bool.{Bool, false}
 use mathlib.Core.List.{List}
@@ -11,7 +11,4 @@ abbrev found : List ℕ → ℕ → List ℕ → Bool
 found s count numbers = any count (λ i. stands_at s (line_numbers * i) numbers)
 
 abbrev pub invariant-loop-i : goal.invariant-loop-i
-invariant-loop-i l = (l.i ≤ l.count) × (found l.list l.i l.numbers ≡ false)
-
-abbrev pub decreases-loop-i : goal.decreases-loop-i
-decreases-loop-i l = l.count - l.i
+invariant-loop-i l = found l.list l.i l.numbers ≡ false

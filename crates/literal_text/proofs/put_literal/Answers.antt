@@ -19,7 +19,6 @@ pub put_quick-requires : goal.put_quick-requires
 put_quick-requires c =
     let size : c.magnitude-variable.result ≡ nat_abs c.args.literal = c.magnitude-variable.ensures ∙ ap nat_abs (to_z-of_z c.ranges.literal) in
     let text = has_minus c.args.literal c.ranges.literal c.if-literal-lt0.true in (
-      c.requires.0,
       omega arith,
       rw length-set (omega (arith, ap length text, ap (λ (n : ℕ). length (decimal n)) size)),
     )
@@ -32,13 +31,13 @@ returns-then-literal-lt0 c =
     let size : c.magnitude-variable.result ≡ nat_abs c.args.literal =
     c.magnitude-variable.ensures ∙ ap nat_abs (to_z-of_z c.ranges.literal) in
     minus_wrote _ (has_minus c.args.literal c.ranges.literal c.if-literal-lt0.true
-    ∙ ap (λ (n : ℕ). 45 ∷ decimal n) (sym size)) c.requires.2 c.put_quick.ensures
+    ∙ ap (λ (n : ℕ). 45 ∷ decimal n) (sym size)) c.requires.1 c.put_quick.ensures
 
 pub put_quick-requires-2 : goal.put_quick-requires-2
 put_quick-requires-2 c =
     let size : c.magnitude-variable.result ≡ nat_abs c.args.literal = c.magnitude-variable.ensures ∙ ap nat_abs (to_z-of_z c.ranges.literal) in
     let text = has_none c.args.literal c.ranges.literal c.if-literal-lt0.false in
-    (c.requires.0, omega arith, omega (arith, ap length text, ap (λ (n : ℕ). length (decimal n)) size))
+    (omega arith, omega (arith, ap length text, ap (λ (n : ℕ). length (decimal n)) size))
 
 pub returns : goal.returns
 returns c =

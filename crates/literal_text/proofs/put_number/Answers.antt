@@ -20,29 +20,29 @@ bounds-out-at-then-number-eq0 c =
 
 pub returns-then-number-eq0 : goal.returns-then-number-eq0
 returns-then-number-eq0 c =
-    zero_wrote (is_zero c.args.number c.ranges.number c.if-number-eq0.true) c.requires.2
+    zero_wrote (is_zero c.args.number c.ranges.number c.if-number-eq0.true) c.requires.1
 
 pub put_literal-next-requires : goal.put_literal-next-requires
 put_literal-next-requires c =
     rw (to_z-of_z c.ranges.number)
-    (c.requires.0, c.requires.1, literal_room (literal_text c.args.number) c.args.at c.args.out.now (is_literal c.args.number c.if-number-eq0.false) c.requires.2)
+    (c.requires.0, literal_room (literal_text c.args.number) c.args.at c.args.out.now (is_literal c.args.number c.if-number-eq0.false) c.requires.1)
 
 pub bounds-out-next : goal.bounds-out-next
 bounds-out-next c =
     let put = subst (λ (z : ℤ). Wrote c.args.at (literal_text z) c.args.out.now c.put_literal-next.result c.put_literal-next.new.out)
     (to_z-of_z c.ranges.number) c.put_literal-next.ensures in
-    blank_room (literal_text c.args.number) c.args.at c.args.out.now (is_literal c.args.number c.if-number-eq0.false) c.requires.2 put
+    blank_room (literal_text c.args.number) c.args.at c.args.out.now (is_literal c.args.number c.if-number-eq0.false) c.requires.1 put
 
 pub overflow_add-result-2 : goal.overflow_add-result-2
 overflow_add-result-2 c =
     let put = subst (λ (z : ℤ). Wrote c.args.at (literal_text z) c.args.out.now c.put_literal-next.result c.put_literal-next.new.out)
     (to_z-of_z c.ranges.number) c.put_literal-next.ensures in
     let room : c.put_literal-next.result < length c.put_literal-next.new.out =
-    blank_room (literal_text c.args.number) c.args.at c.args.out.now (is_literal c.args.number c.if-number-eq0.false) c.requires.2 put in
+    blank_room (literal_text c.args.number) c.args.at c.args.out.now (is_literal c.args.number c.if-number-eq0.false) c.requires.1 put in
     omega (arith, c.put_literal-next.auto.out)
 
 pub returns : goal.returns
 returns c =
     let put = subst (λ (z : ℤ). Wrote c.args.at (literal_text z) c.args.out.now c.put_literal-next.result c.put_literal-next.new.out)
     (to_z-of_z c.ranges.number) c.put_literal-next.ensures in
-    blank_wrote (literal_text c.args.number) c.args.at c.args.out.now (is_literal c.args.number c.if-number-eq0.false) c.requires.2 put
+    blank_wrote (literal_text c.args.number) c.args.at c.args.out.now (is_literal c.args.number c.if-number-eq0.false) c.requires.1 put

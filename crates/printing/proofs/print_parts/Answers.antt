@@ -5,10 +5,10 @@ use Rattle.printing.proofs.print_parts.Goals as goal
 
 pub overflow_add-end : goal.overflow_add-end
 overflow_add-end g c =
-    let within : c.loop-part.end + c.in-Written.bytes ≤ length c.loop-part.out = gathered_within _ _ _ _ _ c.in-Written.is c.gather.ensures.0 (omega arith) in
+    let within : c.loop-part.end + c.in-Ok.bytes ≤ length c.loop-part.out = gathered_within _ _ _ _ _ c.in-Ok.ensures.0 (omega arith) in
     omega arith
 
 pub make_room-requires : goal.make_room-requires
 make_room-requires g c =
-    let within : c.loop-part.end + c.in-Written.bytes ≤ length c.loop-part.out = gathered_within _ _ _ _ _ c.in-Written.is c.gather.ensures.0 (omega arith) in
+    let within : c.loop-part.end + c.in-Ok.bytes ≤ length c.loop-part.out = gathered_within _ _ _ _ _ c.in-Ok.ensures.0 (omega arith) in
     omega arith

@@ -7,7 +7,8 @@ use Rattle.printing.proofs.print_refusal.Goals as goal
 
 pub slice_bounds-write_all-end : goal.slice_bounds-write_all-end
 slice_bounds-write_all-end g c =
-    let refusal = c.args.refusal in
-    let most = refusal_most refusal.number refusal.place (search rules) (search rules) in
+    let number = c.number.result in
+    let place = c.place.result in
+    let most = refusal_most number place (search rules) (search rules) in
     let put = c.refusal_text-bytes.ensures in
-    omega (arith, put.next, ap length put.now_is, overwrite_length 0 (refusal_text refusal.number refusal.place) (replicate 64 0) (omega arith))
+    omega (arith, put.next, ap length put.now_is, overwrite_length 0 (refusal_text number place) (replicate 64 0) (omega arith))

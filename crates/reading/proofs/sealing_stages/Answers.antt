@@ -14,11 +14,11 @@ returns-in_default c = hand_on _ _ _ _ _ _ c.length_stage-length.ensures c.in_de
 
 pub later_stages-requires : goal.later_stages-requires
 later_stages-requires c =
-    let length = asked _ _ _ _ c.length_stage-length.ensures c.in-Accepted.is in
+    let length = asked _ _ _ _ c.length_stage-length.ensures c.in-Ok.is in
     subst (Whole _) length.1 (whole _ length.0)
 
 pub returns : goal.returns
 unfolding questions check_questions
 returns c =
-    let length = asked _ _ _ _ c.length_stage-length.ensures c.in-Accepted.is in
+    let length = asked _ _ _ _ c.length_stage-length.ensures c.in-Ok.is in
     (rw (← length.1) at c.later_stages.ensures) ∙ sym (go_on _ _ _ length.0)

@@ -1,7 +1,5 @@
 use native.Mathlib.Omega.{arith}
-use Prim.Native.Nat.{◌-◌}
 use mathlib.Core.Path.{◌≡◌, refl, sym, ap, ◌∙◌, subst}
-use borrow.Author.Rules.{rules}
 use Rattle.buffers.specs.Overwrite.{Wrote}
 use Rattle.trail.specs.Trail.{line_count}
 use Rattle.differential.specs.Report.{Report}
@@ -16,30 +14,30 @@ use Rattle.report_buffer.proofs.ReportBytes.{reports_none, reports_place, report
 use Rattle.report_buffer.proofs.put_reports.Goals as goal
 
 pub loop-k-init : goal.loop-k-init
-loop-k-init c = (search rules, refl, reports_none (line_report (trail_of c.args.sheet.now)) _)
+loop-k-init c = (refl, reports_none (line_report (trail_of c.args.sheet.now.bytes.now)) _)
 
 pub put_report-next-requires : goal.put_report-next-requires
 put_report-next-requires c =
     let h = c.loop-k in
-    let s = c.args.sheet.now in
-    let read = c.requires.0 in
-    let lines : line_count (trail_of s) ≡ c.args.header.lines = trail_lines s ∙ ap (λ (p : Header). p.lines) read.parts in
-    let here = reports_place (line_report (trail_of s)) h.k h.invariant.2 in
+    let s = c.args.sheet.now.bytes.now in
+    let read = c.args.sheet.now.read in
+    let lines : line_count (trail_of s) ≡ c.args.sheet.now.header.lines = trail_lines s ∙ ap (λ (p : Header). p.lines) read.parts in
+    let here = reports_place (line_report (trail_of s)) h.k h.invariant.1 in
     (omega arith, subst SmallReport (sym c.report_at.ensures) (sheet_report_small s read.accepted h.k (omega arith)))
 
 pub loop-k-preserved : goal.loop-k-preserved
 loop-k-preserved c =
     let h = c.loop-k in
     let put = c.put_report-next in
-    let s = c.args.sheet.now in
+    let s = c.args.sheet.now.bytes.now in
     let written = subst (λ (r : Report). Wrote h.next (report_bytes r) h.out put.result put.new.out) c.report_at.ensures put.ensures in
-    (search rules, put.auto.out ∙ h.invariant.1, reports_next (line_report (trail_of s)) h.k (omega arith) h.invariant.2 written)
+    (put.auto.out ∙ h.invariant.0, reports_next (line_report (trail_of s)) h.k (omega arith) h.invariant.1 written)
 
 pub returns : goal.returns
 unfolding sheet_bytes
 returns c =
     let h = c.loop-k in
-    let s = c.args.sheet.now in
-    let lines : line_count (trail_of s) ≡ c.args.header.lines = trail_lines s ∙ ap (λ (p : Header). p.lines) c.requires.0.parts in
+    let s = c.args.sheet.now.bytes.now in
+    let lines : line_count (trail_of s) ≡ c.args.sheet.now.header.lines = trail_lines s ∙ ap (λ (p : Header). p.lines) c.args.sheet.now.read.parts in
     let e : h.k ≡ line_count (trail_of s) = omega arith in
-    rw e at h.invariant.2
+    rw e at h.invariant.1

@@ -1,5 +1,4 @@
 -- The invariant: the reports of the lines passed are written.
-use Prim.Native.Nat.{◌-◌, ◌≤◌}
 use mathlib.Core.Path.{◌≡◌}
 use lib.ListN.{length}
 use Rattle.buffers.specs.Overwrite.{Wrote}
@@ -11,7 +10,4 @@ use Rattle.report_buffer.proofs.put_reports.Given as goal
 
 abbrev pub invariant-loop-k : goal.invariant-loop-k
 invariant-loop-k l =
-    (l.k ≤ l.lines) × (length l.out ≡ length l.initial.out) × Wrote 0 (concat l.k (λ i. report_bytes (line_report (trail_of l.sheet) i))) l.initial.out l.next l.out
-
-abbrev pub decreases-loop-k : goal.decreases-loop-k
-decreases-loop-k l = l.lines - l.k
+    (length l.out ≡ length l.initial.out) × Wrote 0 (concat l.k (λ i. report_bytes (line_report (trail_of l.sheet.bytes.now) i))) l.initial.out l.next l.out

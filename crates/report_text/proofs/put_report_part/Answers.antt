@@ -6,19 +6,19 @@ use Rattle.report_text.proofs.put_report_part.Goals as goal
 
 pub put_report-requires : goal.put_report-requires
 put_report-requires c =
-    line_fits c.args.sheet.now c.args.header c.requires.0 c.args.part (omega arith) c.report_at.ensures
+    line_fits c.args.sheet.now.bytes.now c.args.sheet.now.header c.args.sheet.now.read c.args.part (omega arith) c.report_at.ensures
     (omega arith)
 
-pub returns-then-part-header : goal.returns-then-part-header
-returns-then-part-header c =
-    let part = line_part (trail_of c.args.sheet.now) c.args.part (omega (arith, c.requires.0.lines)) in
+pub returns-then-part-sheet : goal.returns-then-part-sheet
+returns-then-part-sheet c =
+    let part = line_part (trail_of c.args.sheet.now.bytes.now) c.args.part (omega (arith, c.args.sheet.now.read.lines)) in
     rw (part, ← c.report_at.ensures) c.put_report.ensures
 
 pub put_totals-requires : goal.put_totals-requires
 put_totals-requires c =
-    totals_fit c.args.sheet.now c.args.header c.requires.0 c.sum_reports.ensures (omega arith)
+    totals_fit c.args.sheet.now.bytes.now c.args.sheet.now.header c.args.sheet.now.read c.sum_reports.ensures (omega arith)
 
 pub returns : goal.returns
 returns c =
-    let part = totals_part (trail_of c.args.sheet.now) c.args.part (omega (arith, c.requires.0.lines)) in
+    let part = totals_part (trail_of c.args.sheet.now.bytes.now) c.args.part (omega (arith, c.args.sheet.now.read.lines)) in
     rw (part, ← c.sum_reports.ensures) c.put_totals.ensures

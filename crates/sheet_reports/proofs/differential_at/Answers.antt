@@ -26,14 +26,14 @@ same s h read k e p q =
 
 pub difference_at-first-requires : goal.difference_at-first-requires
 difference_at-first-requires c =
-    let right = line_at_right c.args.sheet.now c.args.header c.requires.0 c.args.k c.requires.1 c.line_at-line.ensures in
-    (c.requires.0, omega (arith, right.first_earlier))
+    let right = line_at_right c.args.sheet.now.bytes.now c.args.sheet.now.header c.args.sheet.now.read c.args.k c.requires c.line_at-line.ensures in
+    omega (arith, right.first_earlier)
 
 pub difference_at-second-requires : goal.difference_at-second-requires
 difference_at-second-requires c =
-    let right = line_at_right c.args.sheet.now c.args.header c.requires.0 c.args.k c.requires.1 c.line_at-line.ensures in
-    (c.requires.0, omega (arith, second_below right))
+    let right = line_at_right c.args.sheet.now.bytes.now c.args.sheet.now.header c.args.sheet.now.read c.args.k c.requires c.line_at-line.ensures in
+    omega (arith, second_below right)
 
 pub returns : goal.returns
 returns c =
-    same c.args.sheet.now c.args.header c.requires.0 c.args.k c.line_at-line.ensures c.difference_at-first.ensures c.difference_at-second.ensures
+    same c.args.sheet.now.bytes.now c.args.sheet.now.header c.args.sheet.now.read c.args.k c.line_at-line.ensures c.difference_at-first.ensures c.difference_at-second.ensures

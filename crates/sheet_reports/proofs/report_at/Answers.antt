@@ -7,7 +7,7 @@ use Rattle.trail_reports.proofs.ProperLines.{report_asks}
 use Rattle.sheet_reports.proofs.report_at.Goals as goal
 
 pub report-requires : goal.report-requires
-report-requires c = report_asks c.requires.0 c.args.k (omega arith) c.differential_at.ensures
+report-requires c = report_asks c.args.sheet.now.read c.args.k (omega arith) c.differential_at.ensures
 
 pub returns : goal.returns
 unfolding line_report

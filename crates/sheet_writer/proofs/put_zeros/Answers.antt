@@ -1,32 +1,26 @@
-use mathlib.Core.Path.{◌≡◌}
-use mathlib.Core.List.{[], ◌∷◌, ◌++◌}
-use Prim.Native.Nat.{ℕ, suc, ◌+◌, ◌-◌, ◌≤◌, ◌<◌}
-use native.Mathlib.Nat.{add-zero, add_assoc, sub-zero, sub-eq-zero_of_le}
+-- The part that is filled is what was to be written.
+use Prim.Native.Nat.{ℕ, ◌+◌, ◌-◌}
+use mathlib.Core.List.{List}
+use mathlib.Core.Path.{◌≡◌, refl, ap, ◌∙◌}
 use native.Mathlib.Omega.{arith}
-use borrow.Author.Rules.{rules}
-use lib.ListN.{length, replicate, length-replicate}
-use Rattle.buffers.proofs.Appending.{left_start, left_take, left_done, wrote_set}
+use lib.ListN.{length, take, drop, replicate, length-replicate}
+use borrow.Rule.Slice.PartMut.{put_mid}
+use Rattle.std.proofs.lemmas.Grind.{common_steps}
+use Rattle.std.proofs.lemmas.Slice.{put_mid-paste}
+use Rattle.std.proofs.lemmas.List.Edits.{paste_all}
+use Rattle.buffers.specs.Overwrite.{overwrite}
 use Rattle.sheet_writer.proofs.put_zeros.Goals as goal
 
-next_zero : (k i : ℕ) → i < k → replicate {A = ℕ} (k - i) 0 ≡ (0 ∷ []) ++ replicate (k - (i + 1)) 0
-next_zero k i h =
-    let e : k - i ≡ suc (k - (i + 1)) = omega arith in
-    rw e
-
-no_zero : (k i : ℕ) → k ≤ i → replicate {A = ℕ} (k - i) 0 ≡ []
-no_zero k i h = rw (sub-eq-zero_of_le h)
-
-pub loop-i-init : goal.loop-i-init
-loop-i-init c = (search rules, rw (add-zero, sub-zero) (left_start _ _ _ (rw length-replicate c.requires)))
-
-pub loop-i-preserved : goal.loop-i-preserved
-loop-i-preserved c =
-    let here = c.args.at + c.loop-i.i in
-    let room : here < length c.loop-i.out = search rules in
-    let more : c.loop-i.i < c.args.count = search rules in
-    (search rules, rw (← add_assoc) (left_take (next_zero _ _ more) c.loop-i.invariant.1 (wrote_set here _ _ room)))
+part_overwritten : {A : Type 0} (at k : ℕ) (l ys new : List A) → length new ≡ k → ys ≡ new → put_mid at k l ys ≡ overwrite at new l
+unfolding overwrite
+part_overwritten at k l ys new long now =
+    put_mid-paste at k l ys new (length new) now long refl ∙ paste_all l at new (length new) refl
 
 pub returns : goal.returns
 returns c =
-    let all : c.loop-i.i ≡ c.args.count = search rules in
-    rw all at (left_done (no_zero c.args.count c.loop-i.i (search rules)) c.loop-i.invariant.1)
+    let a = c.args in
+    let filled : length (take (a.at + a.count - a.at) (drop a.at a.out.now)) ≡ a.count = grind (arith, common_steps) in
+    record {
+      next = grind (arith, common_steps);
+      now_is = part_overwritten _ _ _ _ _ (omega (arith, length-replicate {A = ℕ})) (c.fill.ensures.after (λ y e. e) ∙ ap (λ (n : ℕ). replicate n 0) filled);
+    }

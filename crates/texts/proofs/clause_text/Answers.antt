@@ -1,24 +1,22 @@
 -- `clause_text` reads and asks for the part, and then only for the room.
 use Rattle.sheet.specs.Fields.{trail_of}
-use Rattle.answers.proofs.Calling.{refused_by_stage, kept}
+use Rattle.answers.proofs.Calling.{refuses_too, kept_too}
 use Rattle.text_parts.proofs.Calls.{part_read, part_there}
 use Rattle.clause_file.specs.Parts.{file_part}
 use Rattle.texts.proofs.clause_text.Goals as goal
 
-pub returns-in_default : goal.returns-in_default
-returns-in_default c =
-    kept _ _ _
-    (refused_by_stage _ _ _ _ _ _ _ c.read_part-reading.ensures c.in_default.is c.refusal_of.ensures)
+pub returns-in_err-header : goal.returns-in_err-header
+returns-in_err-header c = kept_too _ _ _ _ _ c.from_residual.ensures.1 (refuses_too _ _ _ _ c.in_err-header.ensures)
+
+pub invariant_of-sheet : goal.invariant_of-sheet
+invariant_of-sheet c = record { read = (part_read _ _ _ c.in_ok-header.ensures).read }
 
 pub write_part-requires : goal.write_part-requires
-write_part-requires c =
-    let read = part_read _ _ _ _ c.read_part-reading.ensures c.in-Accepted.is in
-    (read.read, read.most)
+write_part-requires c = (part_read _ _ _ c.in_ok-header.ensures).most
 
 pub returns : goal.returns
 returns c =
     let a = c.args in
     let text = file_part (trail_of a.sheet.now) a.part in
-    let read = part_read _ _ _ _ c.read_part-reading.ensures
-    c.in-Accepted.is in
+    let read = part_read _ _ _ c.in_ok-header.ensures in
     rw (part_there a.sheet.now a.part text a.out.now read.passed) c.write_part.ensures

@@ -10,8 +10,7 @@ use Rattle.texts.proofs.refusal_text.Goals as goal
 pub put_line-requires : goal.put_line-requires
 unfolding ascii behind refusal_text
 put_line-requires c =
-    let refusal = c.args.refusal in
-    omega (arith, refusal_most refusal.number refusal.place (search rules) (search rules))
+    omega (arith, refusal_most c.args.number c.args.place (search rules) (search rules))
 
 pub returns : goal.returns
 unfolding ascii behind refusal_text

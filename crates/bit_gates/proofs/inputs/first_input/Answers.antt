@@ -15,7 +15,7 @@ small_none (suc i) = omega arith
 
 pub first_literal-requires : goal.first_literal-requires
 first_literal-requires c =
-    (c.requires.0, c.requires.1, sym c.is_filled.ensures ∙ c.if-is_filled.false)
+    (c.requires, sym c.is_filled.ensures ∙ c.if-is_filled.false)
 
 pub with-requires : goal.with-requires
 with-requires c =

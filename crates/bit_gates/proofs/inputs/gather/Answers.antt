@@ -11,12 +11,12 @@ use Rattle.bit_gates.proofs.inputs.gather.Goals as goal
 pub with_second-operands-requires : goal.with_second-operands-requires
 with_second-operands-requires c =
     let first = c.first_input-first.ensures in
-    (gathers_as (omega arith) (sym first.are) first, c.requires.0, c.requires.1)
+    (gathers_as (omega arith) (sym first.are) first, c.requires)
 
 pub with_carry-requires : goal.with_carry-requires
 with_carry-requires c =
     let operands = c.with_second-operands.ensures in
-    (gathers_as (omega arith) (sym operands.are) operands, c.requires.0, c.requires.1)
+    (gathers_as (omega arith) (sym operands.are) operands, c.requires)
 
 pub returns : goal.returns
 returns c =

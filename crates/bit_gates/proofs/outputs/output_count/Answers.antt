@@ -8,7 +8,7 @@ returns-then-i-run c = none_goes_out c.args.run c.args.i c.if-i-run.true
 
 pub returns-then-has_carries : goal.returns-then-has_carries
 returns-then-has_carries c =
-    one_carried c.args.run c.args.i (sym c.has_carries.ensures ∙ c.if-has_carries.true) c.requires.1 c.if-i-run.false
+    one_carried c.args.run c.args.i (sym c.has_carries.ensures ∙ c.if-has_carries.true) c.requires c.if-i-run.false
 
 pub returns-else-has_carries : goal.returns-else-has_carries
 returns-else-has_carries c =

@@ -6,7 +6,7 @@ use Rattle.bit_gates.proofs.outputs.output_table.Goals as goal
 pub carry_table-requires : goal.carry_table-requires
 carry_table-requires c =
     let a = c.args in
-    (c.requires.0, c.requires.1, some_carried a.run a.i a.j c.requires.2 c.if-j-eq0.false)
+    (c.requires.0, some_carried a.run a.i a.j c.requires.1 c.if-j-eq0.false)
 
 pub returns-then-j-eq0 : goal.returns-then-j-eq0
 returns-then-j-eq0 c =

@@ -16,8 +16,8 @@ returns-else-i-eq0 c =
 
 pub returns-then-bit : goal.returns-then-bit
 returns-then-bit c =
-    carry_is c.requires.0 c.args.i c.requires.2 c.in_default.in_default-own.rest.1 true (sym c.bit.ensures ∙ c.if-bit.true)
+    carry_is c.args.run c.args.i c.requires.1 c.in_default.in_default-own.rest.1 true (sym c.bit.ensures ∙ c.if-bit.true)
 
 pub returns-else-bit : goal.returns-else-bit
 returns-else-bit c =
-    carry_is c.requires.0 c.args.i c.requires.2 c.in_default.in_default-own.rest.1 false (sym c.bit.ensures ∙ c.if-bit.false)
+    carry_is c.args.run c.args.i c.requires.1 c.in_default.in_default-own.rest.1 false (sym c.bit.ensures ∙ c.if-bit.false)

@@ -4,7 +4,7 @@ use Rattle.answers.proofs.Answering.{turn}
 use Rattle.block_questions.proofs.checks.check_stage.Goals as goal
 
 pub loop-block-init : goal.loop-block-init
-loop-block-init c = (search rules, search turn)
+loop-block-init c = search turn
 
 pub returns-then-not-check_right : goal.returns-then-not-check_right
 unfolding check_question
@@ -12,7 +12,7 @@ returns-then-not-check_right c = search turn depth 12
 
 pub loop-block-preserved : goal.loop-block-preserved
 unfolding check_question
-loop-block-preserved c = (search rules, search turn depth 12)
+loop-block-preserved c = search turn depth 12
 
 pub returns : goal.returns
 returns c = search turn depth 12

@@ -6,7 +6,4 @@ use Rattle.sheet.specs.Questions.{check_question}
 use Rattle.block_questions.proofs.checks.check_stage.Given as goal
 
 abbrev pub invariant-loop-block : goal.invariant-loop-block
-invariant-loop-block l = (l.block ≤ l.blocks) × (all_yes (concat l.block (check_question l.s)) ≡ true)
-
-abbrev pub decreases-loop-block : goal.decreases-loop-block
-decreases-loop-block l = l.blocks - l.block
+invariant-loop-block l = all_yes (concat l.block (check_question l.s)) ≡ true

@@ -6,7 +6,4 @@ use Rattle.sheet.specs.Questions.{rest_question}
 use Rattle.block_questions.proofs.rest.rest_stage.Given as goal
 
 abbrev pub invariant-loop-i : goal.invariant-loop-i
-invariant-loop-i l = (l.i ≤ l.line_blocks) × (l.line_blocks ≡ l.header.blocks - 1) × (all_yes (concat l.i (rest_question l.s l.header)) ≡ true)
-
-abbrev pub decreases-loop-i : goal.decreases-loop-i
-decreases-loop-i l = l.line_blocks - l.i
+invariant-loop-i l = (l.line_blocks ≡ l.header.blocks - 1) × (all_yes (concat l.i (rest_question l.s l.header)) ≡ true)

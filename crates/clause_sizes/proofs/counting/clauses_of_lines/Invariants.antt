@@ -1,5 +1,4 @@
 -- The loop's invariant: the clauses of the lines passed are summed, which fits by the limit on all.
-use Prim.Native.Nat.{◌-◌, ◌≤◌}
 use mathlib.Core.Path.{◌≡◌}
 use lib.ListN.{length}
 use Rattle.words.specs.Below.{total}
@@ -8,7 +7,4 @@ use Rattle.sheet.specs.Fields.{trail_of}
 use Rattle.clause_sizes.proofs.counting.clauses_of_lines.Given as goal
 
 abbrev pub invariant-loop-k : goal.invariant-loop-k
-invariant-loop-k l = (l.k ≤ l.lines) × (l.sum ≡ total l.k (λ i. length (line_clauses (trail_of l.sheet) i)))
-
-abbrev pub decreases-loop-k : goal.decreases-loop-k
-decreases-loop-k l = l.lines - l.k
+invariant-loop-k l = l.sum ≡ total l.k (λ i. length (line_clauses (trail_of l.sheet.bytes.now) i))

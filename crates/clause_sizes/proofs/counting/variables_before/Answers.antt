@@ -12,7 +12,7 @@ pub overflow_cast-words : goal.overflow_cast-words
 overflow_cast-words c = omega arith
 
 pub overflow_mul-result : goal.overflow_mul-result
-overflow_mul-result c = omega (arith, word_variables_most _ _ c.requires.0)
+overflow_mul-result c = omega (arith, word_variables_most _ _ c.args.sheet.now.read)
 
 pub overflow_sub-result : goal.overflow_sub-result
 overflow_sub-result c = omega arith
@@ -22,21 +22,21 @@ overflow_mul-result-2 c = omega arith
 
 pub overflow_mul-result-3 : goal.overflow_mul-result-3
 overflow_mul-result-3 c =
-    let limits = c.requires.0.limits in
+    let limits = c.args.sheet.now.read.limits in
     let few : c.args.k ≤ most_lines = omega (arith, limits.lines_most) in
-    omega (arith, c.requires.0.width_most, carry_variables_most _ _ c.requires.0 most_lines c.args.k c.carried_before.result few c.carried_before.ensures)
+    omega (arith, c.args.sheet.now.read.width_most, carry_variables_most _ _ c.args.sheet.now.read most_lines c.args.k c.carried_before.result few c.carried_before.ensures)
 
 pub overflow_add-result : goal.overflow_add-result
 overflow_add-result c =
-    let limits = c.requires.0.limits in
+    let limits = c.args.sheet.now.read.limits in
     let few : c.args.k ≤ most_lines = omega (arith, limits.lines_most) in
     omega (
       arith,
-      c.requires.0.width_most,
-      word_variables_most _ _ c.requires.0,
-      carry_variables_most _ _ c.requires.0 most_lines c.args.k c.carried_before.result few c.carried_before.ensures,
+      c.args.sheet.now.read.width_most,
+      word_variables_most _ _ c.args.sheet.now.read,
+      carry_variables_most _ _ c.args.sheet.now.read most_lines c.args.k c.carried_before.result few c.carried_before.ensures,
     )
 
 pub returns : goal.returns
 returns c =
-    variables_are c.args.sheet.now c.args.header c.requires.0 c.args.k c.carried_before.result c.carried_before.ensures
+    variables_are c.args.sheet.now.bytes.now c.args.sheet.now.header c.args.sheet.now.read c.args.k c.carried_before.result c.carried_before.ensures

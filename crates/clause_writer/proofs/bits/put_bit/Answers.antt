@@ -1,6 +1,6 @@
 use native.Mathlib.Omega.{arith}
-use Prim.Native.Nat.{ℕ, ◌+◌, ◌-◌, ◌≤◌}
-use mathlib.Core.Path.{◌≡◌, refl, sym, ap, subst, ◌∙◌}
+use Prim.Native.Nat.{ℕ, ◌+◌, ◌≤◌}
+use mathlib.Core.Path.{◌≡◌, sym, ap, subst, ◌∙◌}
 use mathlib.Core.List.{List}
 use lib.IntN.{ℤ}
 use lib.ListN.{length}
@@ -24,11 +24,11 @@ room r i at out h = subst (λ (cs : List (List ℤ)). at + length (numbers cs) �
 pub loop-j-init : goal.loop-j-init
 loop-j-init c =
     let a = c.args in
-    (omega arith, refl, rows_start (clauses_of_output a.run a.i) (outputs_of a.run a.i) a.at a.out.now (room a.run a.i a.at a.out.now c.requires.2))
+    rows_start (clauses_of_output a.run a.i) (outputs_of a.run a.i) a.at a.out.now (room a.run a.i a.at a.out.now c.requires.1)
 
 pub output_table-table-requires : goal.output_table-table-requires
 output_table-table-requires c =
-    (c.requires.0, c.requires.1, omega (arith, c.output_count-outputs.ensures))
+    (c.requires.0, omega (arith, c.output_count-outputs.ensures))
 
 pub put_output-next-requires : goal.put_output-next-requires
 put_output-next-requires c =
@@ -43,7 +43,7 @@ put_output-next-requires c =
       output.1,
       subst (λ (ns : List ℤ). h.next + length ns ≤ length h.out) (sym tied)
           (row_fits (clauses_of_output a.run a.i) (outputs_of a.run a.i) a.at a.out.now
-          (room a.run a.i a.at a.out.now c.requires.2) h.j h.next h.out (omega (arith, count)) h.invariant.2 h.invariant.1),
+          (room a.run a.i a.at a.out.now c.requires.1) h.j h.next h.out (omega (arith, count)) h.invariant h.auto.out),
     )
 
 pub loop-j-preserved : goal.loop-j-preserved
@@ -56,15 +56,9 @@ loop-j-preserved c =
     let table = c.output_table-table in
     let put = c.put_output-next in
     let tied = output_tied a.run a.i there h.j table.result table.ensures output.0 in
-    let wrote = subst (λ (ns : List ℤ). Wrote h.next ns h.out put.result put.new.out) tied put.ensures in (
-      omega arith,
-      put.auto.out ∙ h.invariant.1,
-      rows_next (clauses_of_output a.run a.i) (outputs_of a.run a.i) a.at a.out.now
-          (room a.run a.i a.at a.out.now c.requires.2) h.j h.next _ h.out _ (omega (arith, count)) h.invariant.2 wrote,
-    )
-
-pub shape_of-out : goal.shape_of-out
-shape_of-out c = c.loop-j.invariant.1
+    let wrote = subst (λ (ns : List ℤ). Wrote h.next ns h.out put.result put.new.out) tied put.ensures in
+    rows_next (clauses_of_output a.run a.i) (outputs_of a.run a.i) a.at a.out.now
+    (room a.run a.i a.at a.out.now c.requires.1) h.j h.next _ h.out _ (omega (arith, count)) h.invariant wrote
 
 pub returns : goal.returns
 returns c =
@@ -73,4 +67,4 @@ returns c =
     let all : h.j ≡ outputs_of a.run a.i = omega (arith, c.output_count-outputs.ensures) in
     let own : concat h.j (clauses_of_output a.run a.i) ≡ clauses_of_bit a.run a.i =
     ap (λ (n : ℕ). concat n (clauses_of_output a.run a.i)) all ∙ sym (bit_outputs a.run a.i) in
-    rw own at h.invariant.2
+    rw own at h.invariant

@@ -1,5 +1,5 @@
 -- The invariant: the records passed are written. Behind the last of them come the block's zeros.
-use Prim.Native.Nat.{ℕ, ◌+◌, ◌*◌, ◌-◌, ◌≤◌}
+use Prim.Native.Nat.{ℕ, ◌+◌, ◌*◌}
 use mathlib.Core.Path.{◌≡◌}
 use mathlib.Core.List.{List}
 use lib.ListN.{length}
@@ -18,7 +18,4 @@ piece f t i j = record_bytes_of f (line_at t (records_in_block f * i + j))
 
 abbrev pub invariant-loop-j : goal.invariant-loop-j
 invariant-loop-j l =
-    (l.j ≤ l.records) × (length l.out ≡ length l.initial.out) × Wrote l.at (concat l.j (piece l.a.form (joined_trail l.first l.second l.names) l.i)) l.initial.out l.next l.out
-
-abbrev pub decreases-loop-j : goal.decreases-loop-j
-decreases-loop-j l = l.records - l.j
+    (length l.out ≡ length l.initial.out) × Wrote l.at (concat l.j (piece l.first.header.form (joined_trail l.first.bytes.now l.second.bytes.now l.names) l.i)) l.initial.out l.next l.out

@@ -1,5 +1,4 @@
 -- The invariant: the line blocks passed are written.
-use Prim.Native.Nat.{◌-◌, ◌≤◌}
 use mathlib.Core.Path.{◌≡◌}
 use lib.ListN.{length}
 use Rattle.words.specs.Below.{concat}
@@ -10,7 +9,4 @@ use Rattle.joined_writer.proofs.lines.put_line_blocks.Given as goal
 
 abbrev pub invariant-loop-i : goal.invariant-loop-i
 invariant-loop-i l =
-    (l.i ≤ l.blocks) × (length l.out ≡ length l.initial.out) × Wrote l.at (concat l.i (line_block l.a.form (joined_trail l.first l.second l.names))) l.initial.out l.next l.out
-
-abbrev pub decreases-loop-i : goal.decreases-loop-i
-decreases-loop-i l = l.blocks - l.i
+    (length l.out ≡ length l.initial.out) × Wrote l.at (concat l.i (line_block l.first.header.form (joined_trail l.first.bytes.now l.second.bytes.now l.names))) l.initial.out l.next l.out

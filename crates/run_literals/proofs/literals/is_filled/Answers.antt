@@ -10,7 +10,7 @@ use Rattle.run_literals.proofs.literals.is_filled.Goals as goal
 pub overflow_add-result : goal.overflow_add-result
 unfolding kind_of
 overflow_add-result c =
-    let line = c.requires.0.line_right in
+    let line = c.args.run.proper.line_right in
     omega (arith, line.amount_most (at_key (λ q. uses_amount q ≡ true) c.in-8.is refl))
 
 pub returns-in-7 : goal.returns-in-7
@@ -27,5 +27,5 @@ pub returns-in_default : goal.returns-in_default
 returns-in_default c =
     let a = c.args in
     let k = a.run.line.kind in
-    let within = known_within k c.requires.0.line_right.kind_known in
+    let within = known_within k c.args.run.proper.line_right.kind_known in
     sym (unfilled k a.run.width a.run.line.amount a.i within.0 within.1 c.in_default.in_default-own.rest.0.1 c.in_default.in_default-own.rest.1)

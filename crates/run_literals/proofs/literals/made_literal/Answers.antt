@@ -5,5 +5,5 @@ use Rattle.run_literals.proofs.literals.made_literal.Goals as goal
 pub returns : goal.returns
 returns c =
     let a = c.args in
-    let proper = c.requires.0 in
-    word_made proper a.run.word a.run.made a.i (made_signed proper) c.bit_literal.ensures
+    let run = c.args.run in
+    word_made run a.run.word a.run.made a.i (made_signed run) c.bit_literal.ensures

@@ -5,10 +5,10 @@ use Rattle.run_literals.proofs.RunLiterals.{second_signed, word_made}
 use Rattle.run_literals.proofs.literals.second_literal.Goals as goal
 
 pub bit_literal-requires : goal.bit_literal-requires
-bit_literal-requires c = (c.requires.0.width_most, omega (arith, second_below c.requires.0.line_right), c.requires.1)
+bit_literal-requires c = (c.args.run.proper.width_most, omega (arith, second_below c.args.run.proper.line_right), c.requires)
 
 pub returns : goal.returns
 returns c =
     let a = c.args in
-    let proper = c.requires.0 in
-    word_made proper a.run.line.second a.run.second a.i (second_signed proper) c.bit_literal.ensures
+    let run = c.args.run in
+    word_made run a.run.line.second a.run.second a.i (second_signed run) c.bit_literal.ensures

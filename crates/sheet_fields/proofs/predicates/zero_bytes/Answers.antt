@@ -1,12 +1,16 @@
-use Prim.Native.Nat.{ℕ, zero, suc, ◌-◌}
-use native.Mathlib.Numerals.{add-one}
+-- The bytes joined are 0 where each of them is.
+use Prim.Native.Nat.{ℕ, zero, suc, ◌+◌, ◌-◌, ◌≤◌, ◌<◌}
 use native.Mathlib.Omega.{arith}
-use mathlib.Core.Path.{◌≡◌, refl, ap, ◌∙◌}
+use mathlib.Core.Path.{◌≡◌, refl}
 use mathlib.Core.Bool.{◌&&◌}
+use mathlib.Core.List.{List}
 use lib.Bits.{bit_or, or_zero_l, or_add_and, and_le_r}
 use lib.Dec.{eqb}
+use lib.ListN.{length, take, drop, length-drop}
+use lib.Seq.{take-suc, get_or-drop}
 use borrow.Author.Tests.{ne_eqb}
-use borrow.Author.Rules.{rules}
+use Rattle.std.specs.List.{fold}
+use Rattle.std.proofs.lemmas.List.Sums.{fold-append}
 use Rattle.words.specs.Below.{all}
 use Rattle.sheet.specs.Questions.{zero_bytes}
 use Rattle.sheet_fields.proofs.predicates.zero_bytes.Goals as goal
@@ -17,16 +21,15 @@ or_zero (suc x) y =
     rw (ne_eqb (suc x) 0 (λ e. omega arith))
     (ne_eqb (bit_or (suc x) y) 0 (λ e. omega (arith, or_add_and (suc x) y, and_le_r (suc x) y)))
 
-pub loop-j-init : goal.loop-j-init
+joined_zero : (k : ℕ) (s : List ℕ) (at : ℕ) → at + k ≤ length s → eqb (fold bit_or 0 (take k (drop at s))) 0 ≡ zero_bytes k s at
 unfolding zero_bytes all
-loop-j-init c = (search rules, refl)
-
-pub loop-j-preserved : goal.loop-j-preserved
-unfolding zero_bytes all
-loop-j-preserved c = (search rules, rw (add-one c.loop-j.j, or_zero, c.loop-j.invariant.1))
+joined_zero zero s at h = refl
+joined_zero (suc k) s at h =
+    let more : k < length (drop at s) = omega (arith, length-drop at s) in
+    rw (take-suc (drop at s) k 0 more, fold-append, or_zero, joined_zero k s at (omega arith), get_or-drop at s k 0)
 
 pub returns : goal.returns
 returns c =
     let a = c.args in
-    let end : c.loop-j.j ≡ a.k = omega arith in
-    c.loop-j.invariant.1 ∙ ap (λ (j : ℕ). zero_bytes j a.s.now a.at) end
+    let e : a.at + a.k - a.at ≡ a.k = omega arith in
+    rw (c.joined.ensures, e) (joined_zero a.k a.s.now a.at c.requires)

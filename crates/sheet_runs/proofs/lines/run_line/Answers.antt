@@ -34,17 +34,17 @@ overflow_add-word c =
 
 pub make_word-x-requires : goal.make_word-x-requires
 make_word-x-requires c =
-    let line = line_at_right _ _ c.requires.0 _ c.requires.1 c.line_at-line.ensures in
-    (omega arith, omega arith, omega arith, line, c.requires.2)
+    let line = line_at_right _ _ c.args.sheet.now.read _ c.requires.0 c.line_at-line.ensures in
+    (omega arith, omega arith, omega arith, line, c.requires.1)
 
 pub make_word-y-requires : goal.make_word-y-requires
 make_word-y-requires c =
-    let line = line_at_right _ _ c.requires.0 _ c.requires.1 c.line_at-line.ensures in
-    (omega arith, omega arith, omega arith, line, c.requires.3)
+    let line = line_at_right _ _ c.args.sheet.now.read _ c.requires.0 c.line_at-line.ensures in
+    (omega arith, omega arith, omega arith, line, c.requires.2)
 
 pub returns : goal.returns
 returns c =
     let line = c.line_at-line.ensures in
-    let first = made _ _ c.requires.0 _ line c.args.first.now c.make_word-x.ensures in
-    let second = made _ _ c.requires.0 _ line c.args.second.now c.make_word-y.ensures in
+    let first = made _ _ c.args.sheet.now.read _ line c.args.first.now c.make_word-x.ensures in
+    let second = made _ _ c.args.sheet.now.read _ line c.args.second.now c.make_word-y.ensures in
     (first.1, second.1, ap₂ bit_xor (ap₂ bit_xor first.0 second.0) (ap (λ (l : Line). l.difference) line))

@@ -10,17 +10,14 @@ use Rattle.sheet_runs.specs.Facts.{Made}
 use Rattle.sheet_runs.proofs.lines.run_lines.Given as goal
 
 abbrev pub invariant-bits : goal.invariant-bits
-invariant-bits l = (l.i ≤ l.asked) × ((j : ℕ) → j < l.i → bit l.apart j ≡ false)
-
-abbrev pub decreases-bits : goal.decreases-bits
-decreases-bits l = l.asked - l.i
+invariant-bits l = (j : ℕ) → j < l.i → bit l.apart j ≡ false
 
 abbrev pub invariant-lines : goal.invariant-lines
 invariant-lines l =
     (l.k ≤ l.lines)
-    × Made (trail_of l.sheet) l.start (input_count (trail_of l.sheet) + l.k) l.first
-    × Made (trail_of l.sheet) (partner (trail_of l.sheet) l.start) (input_count (trail_of l.sheet) + l.k) l.second
-    × ((i : ℕ) → i < l.k → line_follows (trail_of l.sheet) l.start i ≡ true)
+    × Made (trail_of l.sheet.bytes.now) l.start (input_count (trail_of l.sheet.bytes.now) + l.k) l.first
+    × Made (trail_of l.sheet.bytes.now) (partner (trail_of l.sheet.bytes.now) l.start) (input_count (trail_of l.sheet.bytes.now) + l.k) l.second
+    × ((i : ℕ) → i < l.k → line_follows (trail_of l.sheet.bytes.now) l.start i ≡ true)
 
 abbrev pub decreases-lines : goal.decreases-lines
 decreases-lines l = l.lines - l.k

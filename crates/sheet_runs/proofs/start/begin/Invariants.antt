@@ -1,5 +1,4 @@
 -- The invariant: the words passed are those of the two runs.
-use Prim.Native.Nat.{◌-◌, ◌≤◌}
 use Rattle.trail.specs.Runs.{partner}
 use Rattle.sheet.specs.Fields.{trail_of}
 use Rattle.sheet_runs.specs.Facts.{Made}
@@ -7,7 +6,4 @@ use Rattle.sheet_runs.proofs.start.begin.Given as goal
 
 abbrev pub invariant-loop-j : goal.invariant-loop-j
 invariant-loop-j l =
-    (l.j ≤ l.inputs) × Made (trail_of l.sheet) l.start l.j l.first × Made (trail_of l.sheet) (partner (trail_of l.sheet) l.start) l.j l.second
-
-abbrev pub decreases-loop-j : goal.decreases-loop-j
-decreases-loop-j l = l.inputs - l.j
+    Made (trail_of l.sheet.bytes.now) l.start l.j l.first × Made (trail_of l.sheet.bytes.now) (partner (trail_of l.sheet.bytes.now) l.start) l.j l.second

@@ -1,8 +1,7 @@
-use Prim.Native.Nat.{ℕ, ◌-◌}
+use Prim.Native.Nat.{ℕ}
 use native.Mathlib.Omega.{arith}
 use mathlib.Core.Path.{◌≡◌, refl, ◌∙◌}
 use mathlib.Core.List.{List}
-use borrow.Author.Rules.{rules}
 use lib.ListN.{length, get_or}
 use Rattle.buffers.specs.LittleEndian.{bytes_of}
 use Rattle.buffers.proofs.LittleEndian.{length_bytes_of}
@@ -22,30 +21,23 @@ input_length s h j = length_bytes_of (word_bytes h.form) (get_or (trail_of s).in
 pub loop-j-init : goal.loop-j-init
 loop-j-init c =
     let a = c.args in
-    (search rules, refl, pieces_none (input a.sheet.now a.header) (word_bytes a.header.form) (input_length a.sheet.now a.header))
+    (refl, pieces_none (input a.sheet.now.bytes.now a.sheet.now.header) (word_bytes a.sheet.now.header.form) (input_length a.sheet.now.bytes.now a.sheet.now.header))
 
 pub put_number-next-requires : goal.put_number-next-requires
 put_number-next-requires c =
     let a = c.args in
     let h = c.loop-j in
-    let place = pieces_place (input a.sheet.now a.header) (word_bytes a.header.form) (input_length a.sheet.now a.header) h.j h.invariant.2 in
-    omega (arith, input_inside a.header.form h.j (omega arith))
+    let place = pieces_place (input a.sheet.now.bytes.now a.sheet.now.header) (word_bytes a.sheet.now.header.form) (input_length a.sheet.now.bytes.now a.sheet.now.header) h.j h.invariant.1 in
+    omega (arith, input_inside a.sheet.now.header.form h.j (omega arith))
 
 pub loop-j-preserved : goal.loop-j-preserved
 loop-j-preserved c =
     let h = c.loop-j in
     let put = c.put_number-next in
-    let s = c.args.sheet.now in
-    let p = c.args.header in (
-      search rules,
-      put.auto.s ∙ h.invariant.1,
+    let s = c.args.sheet.now.bytes.now in
+    let p = c.args.sheet.now.header in (
+      put.auto.s ∙ h.invariant.0,
       pieces_next (input s p) (word_bytes p.form) (input_length s p) h.j
-          (omega (arith, input_inside p.form h.j (omega arith))) h.invariant.2
+          (omega (arith, input_inside p.form h.j (omega arith))) h.invariant.1
           (rw (c.word_bytes-word.ensures, c.input_at.ensures) at put.ensures),
     )
-
-pub returns : goal.returns
-returns c =
-    let h = c.loop-j in
-    let all : h.j ≡ 8 = omega arith in
-    rw all at h.invariant.2

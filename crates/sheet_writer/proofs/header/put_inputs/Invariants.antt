@@ -1,5 +1,5 @@
 -- The invariant: the input differences passed are written, each in as many bytes as the form's words take.
-use Prim.Native.Nat.{ℕ, ◌-◌, ◌≤◌}
+use Prim.Native.Nat.{ℕ}
 use mathlib.Core.Path.{◌≡◌}
 use mathlib.Core.List.{List}
 use lib.ListN.{length, get_or}
@@ -16,7 +16,4 @@ input s h j = bytes_of (word_bytes h.form) (get_or (trail_of s).inputs j 0)
 
 abbrev pub invariant-loop-j : goal.invariant-loop-j
 invariant-loop-j l =
-    (l.j ≤ 8) × (length l.out ≡ length l.initial.out) × Wrote l.at (concat l.j (input l.sheet l.header)) l.initial.out l.next l.out
-
-abbrev pub decreases-loop-j : goal.decreases-loop-j
-decreases-loop-j l = 8 - l.j
+    (length l.out ≡ length l.initial.out) × Wrote l.at (concat l.j (input l.sheet.bytes.now l.sheet.header)) l.initial.out l.next l.out

@@ -1,8 +1,7 @@
 -- The fields before the constant, each written where the one before it ends.
 use native.Mathlib.Omega.{arith}
-use Rattle.buffers.proofs.Appending.{left_start, left_step}
+use Rattle.buffers.proofs.Appending.{left_start, left_step, left_last}
 use Rattle.buffers.proofs.LittleEndian.{length_bytes_of}
-use Rattle.sheet_writer.proofs.Pieces.{left_last}
 use Rattle.sheet_writer.proofs.RecordBytes.{operand_bytes, operands_length}
 use Rattle.sheet_writer.proofs.records.put_operands.Goals as goal
 

@@ -5,9 +5,6 @@ use Rattle.sheet.proofs.FormSizes.{sizes}
 use Rattle.sheet_writer.proofs.RecordBytes.{operands_length, record_written}
 use Rattle.sheet_writer.proofs.records.put_record.Goals as goal
 
-pub put_operands-constant_at-requires : goal.put_operands-constant_at-requires
-put_operands-constant_at-requires c = omega (arith, (sizes c.args.form).record_holds)
-
 pub put_number-difference_at-requires : goal.put_number-difference_at-requires
 put_number-difference_at-requires c =
     let a = c.args in
@@ -17,15 +14,6 @@ pub put_number-rest_at-requires : goal.put_number-rest_at-requires
 put_number-rest_at-requires c =
     let a = c.args in
     omega (arith, (sizes a.form).record_holds, operands_length a.line, length_bytes_of c.word_bytes-word.result a.line.constant)
-
-pub overflow_mul-word : goal.overflow_mul-word
-overflow_mul-word c = omega (arith, (sizes c.args.form).record_holds)
-
-pub overflow_add-word : goal.overflow_add-word
-overflow_add-word c = omega (arith, (sizes c.args.form).record_holds)
-
-pub overflow_sub-record_bytes : goal.overflow_sub-record_bytes
-overflow_sub-record_bytes c = omega (arith, (sizes c.args.form).record_holds)
 
 pub put_zeros-requires : goal.put_zeros-requires
 put_zeros-requires c =
