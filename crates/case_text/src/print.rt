@@ -3,7 +3,6 @@ ghost use Rattle.std.specs.Prelude.{◌++◌, OnOk, codes, decimal};
 ghost use Rattle.std.specs.Io.KnownBytes.{Appends};
 ghost use Rattle.case_text.specs.Hexadecimal.{hexadecimal};
 
-use std::fmt::Display;
 use std::io;
 use std::io::Write;
 
@@ -21,14 +20,6 @@ pub fn print_bytes<W: Write>(out: &mut W, bytes: &[u8]) -> io::Result<()>
 {
     for byte in bytes {
         write!(out, "{byte:02x}")?;
-    }
-    Ok(())
-}
-
-// Numbers, each after a blank.
-pub fn print_numbers<W: Write, T: Display>(out: &mut W, numbers: &[T]) -> io::Result<()> {
-    for number in numbers {
-        write!(out, " {number}")?;
     }
     Ok(())
 }

@@ -2,8 +2,9 @@
 ghost use Rattle.std.specs.Prelude.{◌≤◌};
 
 use crate::SHEET_BYTES;
+use crate::print::print_numbers;
 use case_text::parse::{number, take_sheet};
-use case_text::print::{print_numbers, print_refused};
+use case_text::print::print_refused;
 use clauses::line_list;
 use std::io;
 use std::io::Write;

@@ -2,7 +2,7 @@
 ghost use Rattle.std.specs.Prelude.{◌≤◌};
 
 use crate::MOST_NUMBERS;
-use case_text::print::{print_numbers, print_refused};
+use case_text::print::print_refused;
 use std::io;
 use std::io::Write;
 
@@ -36,4 +36,12 @@ fn print_index(out: &mut impl Write, sheet: &[u8], buffer: &mut [u16]) -> io::Re
     }
     write!(out, ":")?;
     print_numbers(out, buffer)
+}
+
+// Numbers, each after a space.
+fn print_numbers(out: &mut impl Write, numbers: &[u16]) -> io::Result<()> {
+    for number in numbers {
+        write!(out, " {number}")?;
+    }
+    Ok(())
 }
