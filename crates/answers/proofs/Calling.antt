@@ -2,7 +2,7 @@
 use Prim.Native.Nat.{ℕ, ◌<◌, ◌≤◌}
 use native.Mathlib.Nat.{zero-add}
 use native.Mathlib.Omega.{arith}
-use mathlib.Core.Path.{◌≡◌, sym, ap, ap₂, subst, ◌∙◌}
+use mathlib.Core.Path.{◌≡◌, refl, sym, ap, ap₂, subst, ◌∙◌}
 use mathlib.Core.Bool.{Bool, true, false, ◌&&◌, cond}
 use mathlib.Core.List.{List, [], ◌++◌, append-nil}
 use borrow.Author.Tests.{lt-ltb, le-ltb, le-leb, lt-leb}
@@ -15,7 +15,7 @@ use Rattle.sheet.specs.Asking.{Question, all_yes, Verdict, verdict}
 use Rattle.sheet.specs.Asking.Verdict.{accepted, refused}
 use Rattle.sheet.specs.Fields.{header_of}
 use Rattle.sheet.specs.Questions.{questions}
-use Rattle.answers.specs.Answers.{number_of, place_of, answer_means, count_means}
+use Rattle.answers.specs.Answers.{number_of, place_of, answer_means, reading_means, count_means}
 use Rattle.answers.specs.Calls.{writing, written_as, written as written-by}
 use Rattle.sheet.specs.Facts.{SheetRead}
 use Rattle.sheet.specs.declared.Header.{Header}
@@ -25,6 +25,12 @@ use Rattle.std.specs.Prelude.{Result, Ok, Err, IsErrAnd}
 use Rattle.sheet.proofs.Asking.{yes_append, go_on, stop, verdict_yes, yes_verdict, no_verdict, comes}
 use Rattle.sheet.proofs.Asking.Comes.{done, yes, no}
 use Rattle.sheet.proofs.WellFormed.{has_read}
+
+-- a stage that refuses: the call refuses with the same number and place, whatever else it asks
+pub refused_by_stage : (qs own : List Question) (h : Header) {A : Type 0} (a : A) (r : Result Header Refusal) (v w : Refusal)
+    → reading_means r ≡ verdict qs h → r ≡ Err v → w ≡ v → refused (number_of w) (place_of w) ≡ verdict (qs ++ own) a
+refused_by_stage qs own h a r v w told e d =
+    ap (λ (x : Refusal). refused (number_of x) (place_of x)) d ∙ sym (stop qs own h a (sym told ∙ ap reading_means e))
 
 -- ---- a refusal that a call hands on by `?`
 
@@ -50,7 +56,8 @@ module _ (s : List ℕ) where
   pub refused_by_reading : {A B : Type 0} (f : A → B) (own : List Question) (b : B) (x : Result A Refusal) (e : Refusal)
       → IsErrAnd x (λ w. w ≡ e) → refused (number_of e) (place_of e) ≡ verdict (questions Read s) (header_of s)
       → answer_means f x ≡ verdict (questions Read s ++ own) b
-  refused_by_reading f own b x e is told = hands_on f (questions Read s) own (header_of s) b x e is told
+  refused_by_reading f own b x e is told =
+      same_refusal f x e is ∙ refused_by_stage (questions Read s) own (header_of s) b (Err e) e e told refl refl
 
   -- the same of a call with no questions of its own
   pub refused_alone : {A B : Type 0} (f : A → B) (b : B) (x : Result A Refusal) (e : Refusal)

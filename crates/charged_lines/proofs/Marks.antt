@@ -2,18 +2,28 @@
 use Prim.Native.Nat.{ℕ, ◌+◌, ◌*◌, ◌≤◌, ◌<◌}
 use native.Mathlib.Omega.{arith}
 use mathlib.Core.Path.{◌≡◌, refl, sym, ap, subst, ◌∙◌}
-use mathlib.Core.Bool.{Bool, true, false, not, false≢true}
+use mathlib.Core.Bool.{Bool, true, false, not, cond, true≢false, false≢true}
 use mathlib.Core.List.{List}
 use borrow.Author.Tests.{eqb-true, eqb-false}
 use lib.Dec.{eqb}
-use lib.ListN.{length, get_or, set}
+use lib.ListN.{length, get_or, set, length-set}
 use lib.Seq.{get_or-set_same, get_or-set_other}
 use Rattle.words.proofs.Below.{below_suc, any_none, any_found, any_witness}
 use Rattle.buffers.specs.Overwrite.{overwrite}
+use Rattle.buffers.proofs.Overwrite.{overwrite_length}
 use Rattle.trail.specs.declared.Line.{Line}
 use Rattle.listed_lines.specs.Listed.{line_numbers, numbers_of, stands_at, is_listed}
 use Rattle.charged_lines.specs.Charged.{marks_count, mark_of, is_marked, Marked}
 use Rattle.listed_lines.proofs.Listed.{stands_one, stands_written, stands_before}
+
+-- a line whose mark is not set is not in the list
+pub unlisted : {s : List ℕ} {count : ℕ} {marks : List ℕ} → Marked s count marks → (l : Line) → is_marked marks l ≡ false
+    → is_listed s count l ≡ false
+unlisted {s} {count} m l e = at (is_listed s count l) refl
+  where
+    at : (listed : Bool) → is_listed s count l ≡ listed → listed ≡ false
+    at true f = absurd (true≢false (sym (m.marked l f) ∙ e))
+    at false f = refl
 
 -- no line is in the list, so none has to be marked
 pub marked_none : (s marks : List ℕ) → Marked s 0 marks
@@ -61,3 +71,19 @@ module _ {s : List ℕ} {count : ℕ} {marks : List ℕ} (m : Marked s count mar
       new q e =
           let same = stands_one then (line_numbers * count) l q (stands_written s (line_numbers * count) l room) e in
           subst (λ (z : Line). is_marked (set marks (mark_of l) 1) z ≡ true) same (mark_set marks marks-room l)
+
+  -- as the code does it, if the line costs something: the lines stay marked, the list as long as it is, and there is one more at the most
+  pub marked_charge : (dear : Bool) {then after : List ℕ} {more : ℕ} → more ≡ cond dear (count + 1) count
+      → then ≡ cond dear (overwrite (line_numbers * count) (numbers_of l) s) s → after ≡ cond dear (set marks (mark_of l) 1) marks
+      → Marked then more after × (length after ≡ marks_count)
+  marked_charge true more then after = (rw (more, then, after) marked_written, ap length after ∙ length-set marks (mark_of l) 1 ∙ marks-room)
+  marked_charge false more then after = (rw (more, then, after) m, ap length after ∙ marks-room)
+
+  pub list_charge : (dear : Bool) {then : List ℕ} → then ≡ cond dear (overwrite (line_numbers * count) (numbers_of l) s) s
+      → length then ≡ length s
+  list_charge true then = ap length then ∙ overwrite_length (line_numbers * count) (numbers_of l) s room
+  list_charge false then = ap length then
+
+  pub count_charge : (dear : Bool) {more most : ℕ} → more ≡ cond dear (count + 1) count → count < most → more ≤ most
+  count_charge true more below = omega (arith, more, below)
+  count_charge false more below = omega (arith, more, below)

@@ -43,12 +43,11 @@ impl ChargedLines {
         }
     }
 
-    // Whether a line costs something and an equal one is charged. One that costs nothing is not looked for, and the list is searched
-    // only where the line's mark is set.
+    // Whether a line costs something and an equal one is charged.
     pub fn holds(&self, line: Line, report: LineReport) -> bool
         ensures { result ≡ (Charged·costs (report_means report) && is_listed self.now.numbers self.now.count line) }
     {
-        costs(report) && is_marked(&self.marks, line) && is_listed(&self.numbers, self.count, line)
+        is_charged(&self.numbers, self.count, &self.marks, line, report)
     }
 
     // Writes a line that costs something behind the others, and sets its mark.
@@ -59,15 +58,48 @@ impl ChargedLines {
             (overwrite (line_numbers * self.old.count) (numbers_of line) self.old.numbers) self.old.numbers)
             × (self.new.marks ≡ cond (Charged·costs (report_means report)) (set self.old.marks (mark_of line) 1) self.old.marks) }
     {
-        if costs(report) {
-            let numbers = numbers_of(line);
-            let at = LINE_NUMBERS * self.count;
-            self.numbers[at..at + LINE_NUMBERS].copy_from_slice(&numbers);
-            let mark = mark_of(line);
-            self.marks[mark] = 1;
-            self.count += 1;
-        }
+        self.count = charge(&mut self.numbers, self.count, &mut self.marks, line, report);
     }
+}
+
+// Whether a line costs something and an equal one is charged. One that costs nothing is not looked for, and the list is searched only
+// where the line's mark is set.
+pub fn is_charged(
+    charged: &[u64],
+    count: usize,
+    marks: &[u8; MARKS],
+    line: Line,
+    report: LineReport,
+) -> bool
+    requires { (line_numbers * count ≤ length charged.now) × Marked charged.now count marks.now }
+    ensures { result ≡ (Charged·costs (report_means report) && is_listed charged.now count line) }
+{
+    costs(report) && is_marked(marks, line) && is_listed(charged, count, line)
+}
+
+// Writes a line that costs something behind the first `count` of the list, and sets its mark. Returns how many there are then.
+pub fn charge(
+    charged: &mut [u64],
+    count: usize,
+    marks: &mut [u8; MARKS],
+    line: Line,
+    report: LineReport,
+) -> usize
+    requires { line_numbers * count + line_numbers ≤ length charged.old }
+    ensures { (result ≡ cond (Charged·costs (report_means report)) (count + 1) count)
+        × (charged.new ≡ cond (Charged·costs (report_means report))
+        (overwrite (line_numbers * count) (numbers_of line) charged.old) charged.old)
+        × (marks.new ≡ cond (Charged·costs (report_means report)) (set marks.old (mark_of line) 1) marks.old) }
+{
+    if costs(report) {
+        let numbers = numbers_of(line);
+        let at = LINE_NUMBERS * count;
+        charged[at..at + LINE_NUMBERS].copy_from_slice(&numbers);
+        let mark = mark_of(line);
+        marks[mark] = 1;
+        return count + 1;
+    }
+    count
 }
 
 // Whether a report may have weight or chains.

@@ -12,7 +12,7 @@ ghost use Rattle.digit_pairs.specs.Pairs.{two_digits, PairTable};
 pub const TABLE_BYTES: usize = 200;
 
 // The table.
-#[derive(Drop)]
+#[derive(Clone, Copy)]
 pub struct DigitPairs {
     pub bytes: [u8; TABLE_BYTES],
     pub ghost filled: { PairTable bytes },

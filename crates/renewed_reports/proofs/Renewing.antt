@@ -65,7 +65,7 @@ module _ {s : List ℕ} {h : Header} (read : SheetRead s h) (k : ℕ) (known : k
     found : at ≡ part_start t word
     found = here ∙ ap₂ part_at own (omega (arith, read.inputs)) ∙ part_found t word (omega (arith, word_there))
 
-    part_fits : at + 1 + length (users t word) ≤ length index
+    pub part_fits : at + 1 + length (users t word) ≤ length index
     part_fits = omega (arith, ap length own, found, part_inside t word word_there)
 
     pub named_count : get_or index at 0 ≡ length (users t word)

@@ -8,6 +8,7 @@ use lib.ListN.{length}
 use Rattle.words.proofs.TruthTables.{same_test}
 use Rattle.words.proofs.Below.{below_suc, Found, any_found, found_more, any_witness}
 use Rattle.buffers.specs.Overwrite.{overwrite}
+use Rattle.buffers.proofs.Overwrite.{overwrite_length}
 use Rattle.trail.specs.declared.Line.{Line}
 use Rattle.trail.specs.Trail.{Trail, line_at}
 use Rattle.trail.specs.Repeats.{equal_lines, is_repeat}
@@ -138,8 +139,13 @@ module _ {t : Trail} {from k : ℕ} {s : List ℕ} {count : ℕ} {sums : Sums} (
   pub other_passed : (costs (report_means r) && is_listed s count l) ≡ false → line_numbers * count + line_numbers ≤ length s
       → {then : List ℕ} {more : ℕ} → more ≡ cond (costs (report_means r)) (count + 1) count
       → then ≡ cond (costs (report_means r)) (overwrite (line_numbers * count) (numbers_of l) s) s
-      → (with_report sums (report_means r) ≡ range_totals t from (k + 1)) × Kept t from (k + 1) then more
+      → (with_report sums (report_means r) ≡ range_totals t from (k + 1)) × Kept t from (k + 1) then more × (length then ≡ length s)
   other_passed e room more then = (
     ap₂ with_report totals means ∙ totals_next t from k r means (sym asked ∙ e),
     rw (more, then, means, line) (kept_charge kept room),
+    ap length then ∙ kept_length (costs (report_means r)),
   )
+    where
+      kept_length : (dear : Bool) → length (cond dear (overwrite (line_numbers * count) (numbers_of l) s) s) ≡ length s
+      kept_length true = overwrite_length (line_numbers * count) (numbers_of l) s room
+      kept_length false = refl
