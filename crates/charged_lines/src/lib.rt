@@ -62,6 +62,9 @@ impl ChargedLines {
     }
 }
 
+// This function and the next take any list with room for their lines, and not the longest sheet's alone: they promised that before
+// there was a type of the charged lines.
+
 // Whether a line costs something and an equal one is charged. One that costs nothing is not looked for, and the list is searched only
 // where the line's mark is set.
 pub fn is_charged(
